@@ -1,0 +1,2 @@
+pub mod RatesMade
+pub mod Products

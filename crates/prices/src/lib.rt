@@ -1,0 +1,3 @@
+//! Price records: what they answer for a point that they do not know.
+
+pub mod fault;
