@@ -1,0 +1,6 @@
+pub mod Bytes
+pub mod Steps
+pub mod Filed
+pub mod Calls
+pub mod Scripts
+pub mod Headers
