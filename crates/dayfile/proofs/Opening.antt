@@ -1,0 +1,48 @@
+-- The lines of a whole file, from its header.
+use mathlib.Core.Path.{_≡_, sym, _∙_, ap}
+use mathlib.Core.List.{List, _++_}
+use Prim.Native.Nat.{ℕ}
+use native.Mathlib.Nat.{zero-add}
+use lib.ListN.{length, drop}
+use Rattle.std.specs.declared.option.Option.the-variants.{Some, None}
+use Rattle.std.specs.declared.result.Result.the-variants.{Ok, Err}
+use Rattle.market.specs.declared.refusal.Refusal.{Refusal as Unmade}
+use Rattle.exposure.specs.declared.rates.Rates.{Rates}
+use Rattle.exposure.specs.Rates.{rates-of, rate-worth}
+use Rattle.book.specs.declared.refusal.Refusal.{Refusal as Unopened}
+use Rattle.book.specs.Answers.{opening-fault}
+use Rattle.book.specs.Opening.{start}
+use Rattle.book.specs.Views.{View}
+use Rattle.dayformat.specs.Headers.{Head, header}
+use Rattle.dayformat.specs.Scripts.{script}
+use Rattle.dayfile.specs.Lines.{closing}
+use Rattle.dayfile.specs.Puts.{over, Wrote, Filled}
+use Rattle.dayfile.specs.Runs.{text, by-opening, by-rates, by-header, lines}
+
+pub filled-first : {bs before now′ : List ℕ} {end : ℕ} → Wrote before 0 bs end now′ → Filled bs before end now′
+filled-first {bs} {before} {now′} {end} w = record { length-is = w .place ∙ zero-add (length bs); after = w .after ∙ ap (λ (k : ℕ). bs ++ drop k before) (zero-add (length bs)) }
+
+pub filled-as : {a b before now′ : List ℕ} {end : ℕ} → a ≡ b → Filled a before end now′ → Filled b before end now′
+filled-as {a} {b} {before} {now′} {end} e f = record { length-is = f .length-is ∙ ap length e; after = f .after ∙ ap (λ (t : List ℕ). over t before) e }
+
+module _ (file : List ℕ) where
+  pub lines-none : header file ≡ None → closing 0 ≡ lines file
+  unfolding lines
+  lines-none e = sym (ap (by-header file) e)
+
+  module _ (h : Head) (e : header file ≡ Some h) where
+    pub lines-rates : (f : Unmade) → rates-of (h .rates) ≡ Err f → closing 0 ≡ lines file
+    unfolding lines
+    lines-rates f r = sym (ap (by-header file) e ∙ ap (by-rates file h) r)
+
+    pub lines-refused : (rates : Rates) (f : Unopened) → rates-of (h .rates) ≡ Ok rates → opening-fault (h .limit) (h .rights) ≡ Some f → closing 0 ≡ lines file
+    unfolding lines
+    lines-refused rates f r o = sym (ap (by-header file) e ∙ ap (by-rates file h) r ∙ ap (by-opening file h rates) o)
+
+    pub lines-opened : (rates : Rates) (v : View) (calls : List ℕ) → rates-of (h .rates) ≡ Ok rates → opening-fault (h .limit) (h .rights) ≡ None → v ≡ start (h .limit) (h .rights) → calls ≡ drop (h .length) file →
+        text (rate-worth rates) v (script 2000 (length file) calls) ≡ lines file
+    unfolding lines
+    lines-opened rates v calls r o ev ec =
+        ap (λ (u : View). text (rate-worth rates) u (script 2000 (length file) calls)) ev
+        ∙ ap (λ (cs : List ℕ). text (rate-worth rates) (start (h .limit) (h .rights)) (script 2000 (length file) cs)) ec
+        ∙ sym (ap (by-header file) e ∙ ap (by-rates file h) r ∙ ap (by-opening file h rates) o)
