@@ -1,0 +1,4 @@
+pub mod Crossing
+pub mod Fractions
+pub mod Halves
+pub mod Counted

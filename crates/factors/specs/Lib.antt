@@ -1,0 +1,3 @@
+pub mod Ratios
+pub mod Days
+pub mod Factors
