@@ -12,7 +12,7 @@ use Rattle.std.specs.declared.result.Result.{Result}
 use Rattle.std.specs.declared.result.Result.the-variants.{Ok, Err}
 use Rattle.market.specs.declared.submission.Submission.{Submission}
 use Rattle.exposure.specs.declared.fault.RuleFault.{RuleFault}
-use Rattle.exposure.specs.Bounds.{Bounded}
+use Rattle.market.specs.Bounds.{Bounded}
 use Rattle.exposure.specs.Worth.{Within}
 use Rattle.book.specs.declared.answer.Accepted.{Accepted}
 use Rattle.book.specs.declared.refusal.Refusal.{Refusal}

@@ -10,7 +10,7 @@ use lib.Signed.{leZ, mag, _≤ℤ_, ≤ℤ-refl}
 use Rattle.std.proofs.shelf.Signed.{ints}
 use Rattle.std.specs.Holes.{removed}
 use Rattle.market.specs.Facts.{left-of, right-of}
-use Rattle.exposure.specs.Bounds.{Bounded}
+use Rattle.market.specs.Bounds.{Bounded}
 use Rattle.book.specs.declared.row.Row.{Row}
 use Rattle.book.specs.Sums.{sum, small, grains}
 

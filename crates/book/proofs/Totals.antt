@@ -7,7 +7,7 @@ use lib.Signed.{_≤ℤ_}
 use mir.Val.{toZ, ofZ, SFits}
 use mir.Syntax.{w64}
 use Rattle.std.proofs.shelf.Signed.{ints}
-use Rattle.exposure.specs.Bounds.{Bounded}
+use Rattle.market.specs.Bounds.{Bounded}
 
 pub in-all : (n : ℕ) (s : ℤ) → n ≤ 500 → Bounded (n * 100000000000000) s → Bounded 50000000000000000 s
 in-all n s h b = record { low = omega (arith, ints, b .low); high = omega (arith, ints, b .high) }

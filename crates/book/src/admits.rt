@@ -1,6 +1,6 @@
 // The tests of a total.
 ghost use mathlib.Core.Path.{_≡_};
-ghost use Rattle.exposure.specs.Bounds.{Bounded};
+ghost use Rattle.market.specs.Bounds.{Bounded};
 ghost use Rattle.book.specs.Answers.{beyond, over};
 
 // In grains: 10^17.

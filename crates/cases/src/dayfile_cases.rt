@@ -188,3 +188,53 @@ fn refused_submissions_yield_their_numbers(rt: LibcRuntime) -> Result<(), Fail> 
     check(yields(heap, &none, b"S 13 0\nS 13 0\n")?)?;
     check(yields(heap, &claim, b"S 12 0\n")?)
 }
+
+// A header with limit 100,000,000, no rights, the factors 60, 20 and 100 and so many points, and then
+// two pages for them: day-ahead cells of 4,000 and real-time cells of 4,800.
+fn paged(heap: Global, points: u8) -> Result<Vec<u8>, Fail> {
+    let mut file = Vec::from_slice(
+        heap,
+        b"DCB\x01\x00\x00\xe1\xf5\x05\x00\x00\x00\x00\x00\x00\x02\x3c\x14\x64",
+    )?;
+    file.push(points)?;
+    for _ in 0..points {
+        for _ in 0..720 {
+            file.extend_from_slice(b"\xa0\x0f\x00\x00")?;
+        }
+    }
+    for _ in 0..points {
+        for _ in 0..720 {
+            file.extend_from_slice(b"\xc0\x12\x00\x00")?;
+        }
+    }
+    Ok(file)
+}
+
+#[test]
+fn pages_value_submissions(rt: LibcRuntime) -> Result<(), Fail> {
+    let heap = rt.alloc();
+    let mut file = paged(heap, 1)?;
+    check(yields(heap, &file, b"")?)?;
+    // An energy bid of 100 tenths at 5,000 at point 1: 100 · (100 · 4000 + 60 · 1000).
+    file.extend_from_slice(
+        b"S\x07\x00\x00\x00\x01\x01\x07\x01\x00\x00\x00\x00\x01\x64\x00\x00\x00\x88\x13\x00\x00",
+    )?;
+    // The same at point 2, which the pages do not know.
+    file.extend_from_slice(
+        b"S\x08\x00\x00\x00\x01\x01\x07\x02\x00\x00\x00\x00\x01\x64\x00\x00\x00\x88\x13\x00\x00",
+    )?;
+    check(yields(heap, &file, b"S 0 46000000\nS 24 46000000\n")?)
+}
+
+#[test]
+fn pages_in_range(rt: LibcRuntime) -> Result<(), Fail> {
+    let heap = rt.alloc();
+    let none = paged(heap, 0)?;
+    let most = paged(heap, 8)?;
+    let more = paged(heap, 9)?;
+    check(yields(heap, &none, b"X 51 0\n")?)?;
+    check(yields(heap, &most, b"")?)?;
+    check(yields(heap, &more, b"X 51 0\n")?)?;
+    check(most.len() == 46_100)?;
+    check(yields(heap, &most[0..46_099], b"X 51 0\n")?)
+}

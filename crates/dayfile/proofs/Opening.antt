@@ -5,19 +5,15 @@ use Prim.Native.Nat.{ℕ}
 use native.Mathlib.Nat.{zero-add}
 use lib.ListN.{length, drop}
 use Rattle.std.specs.declared.option.Option.the-variants.{Some, None}
-use Rattle.std.specs.declared.result.Result.the-variants.{Ok, Err}
-use Rattle.market.specs.declared.refusal.Refusal.{Refusal as Unmade}
-use Rattle.exposure.specs.declared.rates.Rates.{Rates}
-use Rattle.exposure.specs.Rates.{rates-of, rate-worth}
 use Rattle.book.specs.declared.refusal.Refusal.{Refusal as Unopened}
 use Rattle.book.specs.Answers.{opening-fault}
 use Rattle.book.specs.Opening.{start}
-use Rattle.book.specs.Views.{View}
+use Rattle.book.specs.Views.{Meaning, View}
 use Rattle.dayformat.specs.Headers.{Head, header}
 use Rattle.dayformat.specs.Scripts.{script}
 use Rattle.dayfile.specs.Lines.{closing}
 use Rattle.dayfile.specs.Puts.{over, Wrote, Filled}
-use Rattle.dayfile.specs.Runs.{text, by-opening, by-rates, by-header, lines}
+use Rattle.dayfile.specs.Runs.{text, by-opening, under, by-valued, by-header, lines}
 
 pub filled-first : {bs before now′ : List ℕ} {end : ℕ} → Wrote before 0 bs end now′ → Filled bs before end now′
 filled-first {bs} {before} {now′} {end} w = record { length-is = w .place ∙ zero-add (length bs); after = w .after ∙ ap (λ (k : ℕ). bs ++ drop k before) (zero-add (length bs)) }
@@ -30,19 +26,18 @@ module _ (file : List ℕ) where
   unfolding lines
   lines-none e = sym (ap (by-header file) e)
 
-  module _ (h : Head) (e : header file ≡ Some h) where
-    pub lines-rates : (f : Unmade) → rates-of (h .rates) ≡ Err f → closing 0 ≡ lines file
+  module _ (h : Head) where
+    pub lines-valued : header file ≡ Some h → by-valued file h (h .valued) ≡ lines file
     unfolding lines
-    lines-rates f r = sym (ap (by-header file) e ∙ ap (by-rates file h) r)
+    lines-valued e = sym (ap (by-header file) e)
 
-    pub lines-refused : (rates : Rates) (f : Unopened) → rates-of (h .rates) ≡ Ok rates → opening-fault (h .limit) (h .rights) ≡ Some f → closing 0 ≡ lines file
-    unfolding lines
-    lines-refused rates f r o = sym (ap (by-header file) e ∙ ap (by-rates file h) r ∙ ap (by-opening file h rates) o)
+    module _ (m : Meaning) where
+      pub under-refused : (f : Unopened) → opening-fault (h .limit) (h .rights) ≡ Some f → closing 0 ≡ under file h m
+      under-refused f o = sym (ap (by-opening file h m) o)
 
-    pub lines-opened : (rates : Rates) (v : View) (calls : List ℕ) → rates-of (h .rates) ≡ Ok rates → opening-fault (h .limit) (h .rights) ≡ None → v ≡ start (h .limit) (h .rights) → calls ≡ drop (h .length) file →
-        text (rate-worth rates) v (script 2000 (length file) calls) ≡ lines file
-    unfolding lines
-    lines-opened rates v calls r o ev ec =
-        ap (λ (u : View). text (rate-worth rates) u (script 2000 (length file) calls)) ev
-        ∙ ap (λ (cs : List ℕ). text (rate-worth rates) (start (h .limit) (h .rights)) (script 2000 (length file) cs)) ec
-        ∙ sym (ap (by-header file) e ∙ ap (by-rates file h) r ∙ ap (by-opening file h rates) o)
+      pub under-opened : (v : View) (calls : List ℕ) → opening-fault (h .limit) (h .rights) ≡ None → v ≡ start (h .limit) (h .rights) → calls ≡ drop (h .length) file →
+          text m v (script 2000 (length file) calls) ≡ under file h m
+      under-opened v calls o ev ec =
+          ap (λ (u : View). text m u (script 2000 (length file) calls)) ev
+          ∙ ap (λ (cs : List ℕ). text m (start (h .limit) (h .rights)) (script 2000 (length file) cs)) ec
+          ∙ sym (ap (by-opening file h m) o)

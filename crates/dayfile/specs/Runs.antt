@@ -11,7 +11,12 @@ use Rattle.market.specs.declared.refusal.Refusal.{Refusal as Unmade}
 use Rattle.market.specs.declared.submission.Submission.{Submission}
 use Rattle.market.specs.Making.{submission-of}
 use Rattle.market.specs.Numbers.{number-of}
+use Rattle.prices.specs.declared.fault.Label.the-variants.{DayAhead, RealTime}
+use Rattle.prices.specs.Pages.{page-entry}
+use Rattle.formulas.specs.declared.factors.Factors.{Factors}
+use Rattle.formulas.specs.Factors.{factors-of}
 use Rattle.exposure.specs.declared.rates.Rates.{Rates}
+use Rattle.exposure.specs.Protocol.{protocol-worth}
 use Rattle.exposure.specs.Rates.{rates-of, rate-worth}
 use Rattle.book.specs.declared.refusal.Refusal.{Refusal as Unopened}
 use Rattle.book.specs.Answers.{opening-fault}
@@ -22,6 +27,7 @@ use Rattle.book.specs.Sums.{sum}
 use Rattle.book.specs.Views.{Meaning, View}
 use Rattle.dayformat.specs.Filed.{Filed, to-submit, to-withdraw, to-limit}
 use Rattle.dayformat.specs.Headers.{Head, header}
+use Rattle.dayformat.specs.Valuations.{Valued, by-rates, by-protocol}
 use Rattle.dayformat.specs.Scripts.{Script, done, cut, then, script}
 use Rattle.dayfile.specs.declared.refusal.Refusal.{Refusal}
 use Rattle.dayfile.specs.declared.refusal.Refusal.the-variants.{AnswerTooSmall}
@@ -58,18 +64,31 @@ text m v done = []
 text m v (cut place) = closing place
 text m v (then k s) = call-line m v k ++ text m (left v (asked m k)) s
 
--- a header whose book opens is followed by its calls
-abbrev pub by-opening : List ℕ → Head → Rates → Option Unopened → List ℕ
-by-opening file h rates None = text (rate-worth rates) (start (h .limit) (h .rights)) (script 2000 (length file) (drop (h .length) file))
-by-opening file h rates (Some f) = closing 0
+-- a header whose book opens is followed by its calls, under the rule's meaning
+abbrev pub by-opening : List ℕ → Head → Meaning → Option Unopened → List ℕ
+by-opening file h m None = text m (start (h .limit) (h .rights)) (script 2000 (length file) (drop (h .length) file))
+by-opening file h m (Some f) = closing 0
 
-abbrev pub by-rates : List ℕ → Head → Result Rates Unmade → List ℕ
-by-rates file h (Ok rates) = by-opening file h rates (opening-fault (h .limit) (h .rights))
-by-rates file h (Err f) = closing 0
+abbrev pub under : List ℕ → Head → Meaning → List ℕ
+under file h m = by-opening file h m (opening-fault (h .limit) (h .rights))
+
+-- rates in range
+abbrev pub by-made-rates : List ℕ → Head → Result Rates Unmade → List ℕ
+by-made-rates file h (Ok rates) = under file h (rate-worth rates)
+by-made-rates file h (Err f) = closing 0
+
+-- factors in range, over the two pages
+abbrev pub by-made-factors : List ℕ → Head → List ℕ → List ℕ → Result Factors Unmade → List ℕ
+by-made-factors file h ahead real (Ok factors) = under file h (protocol-worth (page-entry DayAhead ahead) (page-entry RealTime real) factors)
+by-made-factors file h ahead real (Err f) = closing 0
+
+abbrev pub by-valued : List ℕ → Head → Valued → List ℕ
+by-valued file h (by-rates prices) = by-made-rates file h (rates-of prices)
+by-valued file h (by-protocol e1 e2 e3 ahead real) = by-made-factors file h ahead real (factors-of e1 e2 e3)
 
 abbrev pub by-header : List ℕ → Option Head → List ℕ
 by-header file None = closing 0
-by-header file (Some h) = by-rates file h (rates-of (h .rates))
+by-header file (Some h) = by-valued file h (h .valued)
 
 -- the lines of a file; an unfit header yields only the closing line at 0
 unfoldable pub lines : List ℕ → List ℕ

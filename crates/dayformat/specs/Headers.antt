@@ -1,6 +1,6 @@
 -- The header of a file. Assumes nothing.
 use mathlib.Core.Bool.{Bool, cond, _&&_}
-use mathlib.Core.List.{List, [], _∷_, map}
+use mathlib.Core.List.{List, map}
 use Prim.Native.Nat.{ℕ, _+_, _*_}
 use lib.Dec.{eqb, leb}
 use lib.IntN.{ℤ}
@@ -10,7 +10,8 @@ use Rattle.std.specs.declared.option.Option.{Option}
 use Rattle.std.specs.declared.option.Option.the-variants.{Some, None}
 use Rattle.market.specs.declared.right.Right.{Right}
 use Rattle.dayformat.specs.declared.header.Header.{Header}
-use Rattle.dayformat.specs.Bytes.{le2, le4, le4-signed, le8-signed}
+use Rattle.dayformat.specs.Bytes.{le2, le4, le8-signed}
+use Rattle.dayformat.specs.Valuations.{Valued, valued-at, meant}
 
 -- the mark DCB and version 1
 abbrev pub marked : List ℕ → Bool
@@ -32,10 +33,6 @@ right-at bs i = record { path = record { source = le2 bs i; sink = le2 bs (i + 2
 abbrev pub rights-of : List ℕ → ℕ → List Right
 rights-of bs n = map (λ (i : ℕ). right-at bs (15 + 9 * i)) (counting 0 n)
 
--- four rates, by kind
-abbrev pub rates-at : List ℕ → ℕ → List ℤ
-rates-at bs i = le4-signed bs i ∷ le4-signed bs (i + 4) ∷ le4-signed bs (i + 8) ∷ le4-signed bs (i + 12) ∷ []
-
 -- the byte that names the rule stands behind the rights, whose count is in bytes 13 and 14
 abbrev pub rule-place : List ℕ → ℕ
 rule-place bs = 15 + 9 * le2 bs 13
@@ -43,18 +40,21 @@ rule-place bs = 15 + 9 * le2 bs 13
 pub record Head : Type 0 where
   pub limit : ℤ
   pub rights : List Right
-  pub rates : List ℤ
+  pub valued : Valued
   pub length : ℕ
 
--- at most 65,536 bytes, 200 rights, rule 1, and no byte short
+-- at most 65,536 bytes, with the mark, the version and at most 200 rights
 abbrev pub headed : List ℕ → Bool
-headed bs =
-    (leb (length bs) 65536 && (leb 15 (length bs) && marked bs))
-    && (leb (le2 bs 13) 200 && (leb (rule-place bs + 17) (length bs) && eqb (getD bs (rule-place bs) 0) 1))
+headed bs = leb (length bs) 65536 && ((leb 15 (length bs) && marked bs) && leb (le2 bs 13) 200)
+
+-- what the rule byte brings stands behind the rights, and the calls behind that
+abbrev pub head-by : List ℕ → Option (Valued × ℕ) → Option Head
+head-by bs None = None
+head-by bs (Some p) = Some (record { limit = le8-signed bs 5; rights = rights-of bs (le2 bs 13); valued = p .0; length = p .1 })
 
 unfoldable pub header : List ℕ → Option Head
-header bs = cond (headed bs) (Some (record { limit = le8-signed bs 5; rights = rights-of bs (le2 bs 13); rates = rates-at bs (rule-place bs + 1); length = rule-place bs + 17 })) None
+header bs = cond (headed bs) (head-by bs (valued-at bs (rule-place bs))) None
 
--- what a header of the code stands for
-abbrev pub head-of : Header → Head
-head-of h = record { limit = h .limit; rights = take (h .count) (h .rights); rates = h .rates; length = h .length }
+-- what a header of the code stands for in its file
+abbrev pub head-of : List ℕ → Header → Head
+head-of file h = record { limit = h .limit; rights = take (h .count) (h .rights); valued = meant file (h .valuation); length = h .length }

@@ -1,2 +1,3 @@
 pub mod RatesMade
-pub mod Products
+pub mod Figuring
+pub mod Valuing

@@ -1,6 +1,9 @@
 pub mod Faults
-pub mod Bounds
 pub mod Worth
 pub mod Ranges
 pub mod Rates
 pub mod RateBounds
+pub mod Figures
+pub mod Protocol
+pub mod FigureBounds
+pub mod ProtocolBounds

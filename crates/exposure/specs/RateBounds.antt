@@ -19,7 +19,7 @@ use Rattle.market.specs.Units.{price-fits}
 use Rattle.market.proofs.Orderings.{last-fits}
 use Rattle.exposure.specs.declared.fault.RuleFault.the-variants.{CoverAboveQuantity}
 use Rattle.exposure.specs.declared.rates.Rates.{Rates}
-use Rattle.exposure.specs.Bounds.{Bounded, wider, bounded-times}
+use Rattle.market.specs.Bounds.{Bounded, wider, bounded-times}
 use Rattle.exposure.specs.Ranges.{rates-fit}
 use Rattle.exposure.specs.Rates.{rate-for, in-grains, rate-worth}
 use Rattle.exposure.specs.Worth.{Within}

@@ -2,7 +2,7 @@
 use lib.IntN.{ℤ}
 use Rattle.std.specs.declared.result.Result.{Result}
 use Rattle.std.specs.declared.result.Result.the-variants.{Ok, Err}
-use Rattle.exposure.specs.Bounds.{Bounded}
+use Rattle.market.specs.Bounds.{Bounded}
 
 -- grains within 10^14 of 0, or a fault
 abbrev pub Within : {E : Type 0} → Result ℤ E → Type 0

@@ -1,5 +1,6 @@
 // The fault of a rule that values no submission.
 ghost use mathlib.Core.Path.{_≡_};
+ghost use Rattle.exposure.specs.declared.fault.RuleFault.the-variants as fault;
 ghost use Rattle.exposure.specs.Faults.{fault-number};
 use market::units::Hour;
 use market::units::Point;
@@ -31,5 +32,14 @@ impl RuleFault {
             RuleFault::NoDays { .. } => 2,
             RuleFault::CoverAboveQuantity => 3,
         }
+    }
+}
+
+// A record's fault, with its label, point and hour.
+pub impl From<RecordFault> for RuleFault as RuleFaultFromRecord {
+    ghost converts = { λ f r. r ≡ fault.UnknownPoint f };
+
+    fn from(fault: RecordFault) -> RuleFault {
+        RuleFault::UnknownPoint(fault)
     }
 }

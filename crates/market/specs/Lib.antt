@@ -1,4 +1,5 @@
 pub mod Units
+pub mod Bounds
 pub mod Curves
 pub mod Submissions
 pub mod Numbers

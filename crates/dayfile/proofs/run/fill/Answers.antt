@@ -1,23 +1,16 @@
 use mathlib.Core.Path.{_≡_, sym, ap, _∙_}
 use mathlib.Core.List.{List}
-use Prim.Native.Nat.{ℕ, _-_, _≤_}
+use Prim.Native.Nat.{ℕ, _+_, _-_, _*_}
 use native.Mathlib.Omega.{arith}
-use borrow.Author.Needs.{needs}
-use lib.IntN.{ℤ}
-use lib.ListN.{length, take, length-drop}
-use mir.Facts.{toZ-ofZ}
-use mir.Syntax.{w64}
-use mir.Val.{toZ, ofZ, SFits}
-use Rattle.std.proofs.shelf.Lists.{take-rest}
-use Rattle.std.specs.declared.option.Option.the-variants.{Some, None}
-use Rattle.market.specs.declared.right.Right.{Right}
-use Rattle.book.specs.Answers.{opening-fault}
-use Rattle.book.specs.Opening.{start}
-use Rattle.book.specs.Views.{view}
+use lib.ListN.{getD, take, drop}
+use Rattle.formulas.specs.Factors.{factors-of}
+use Rattle.dayformat.specs.declared.header.Valuation.{Valuation}
 use Rattle.dayformat.specs.Headers.{head-of}
+use Rattle.dayformat.specs.Valuations.{meant}
 use Rattle.dayformat.proofs.Heading.{header-inside}
+use Rattle.dayfile.specs.Runs.{by-valued, by-made-factors}
 use Rattle.dayfile.proofs.Going.{closing-short}
-use Rattle.dayfile.proofs.Opening.{filled-first, filled-as, lines-none, lines-rates, lines-refused, lines-opened}
+use Rattle.dayfile.proofs.Opening.{filled-first, filled-as, lines-none, lines-valued}
 use Rattle.dayfile.proofs.run.fill.Needs as need
 
 pub put-closing-requires : need.put-closing-requires
@@ -26,72 +19,44 @@ put-closing-requires c κs = omega (arith, closing-short 0 (omega arith))
 pub returns-in-rest : need.returns-in-rest
 returns-in-rest c = record {
   fits = let p = c .put-closing .ensures .place in omega (arith, closing-short 0 (omega arith));
-  filled = filled-as (lines-none (c .args .file .now) (sym (c .in-rest .ensures tt))) (filled-first (c .put-closing .ensures));
+  filled = filled-as (lines-none (c .args .file .now) (sym (c .in-rest .ensures tt .value))) (filled-first (c .put-closing .ensures));
 }
 
-pub put-closing-requires-in-rest-make : need.put-closing-requires-in-rest-make
-put-closing-requires-in-rest-make c κs = omega (arith, closing-short 0 (omega arith))
+pub play-by-rates-requires : need.play-by-rates-requires
+play-by-rates-requires c κs =
+    let inside = header-inside (c .args .file .now) (head-of (c .args .file .now) (c .in-Some .header)) (sym (c .in-Some .ensures tt .value)) in
+    record { room = c .pre; short = inside .1; inside = inside .0 }
 
-pub returns-in-rest-make : need.returns-in-rest-make
-returns-in-rest-make c = record {
-  fits = let p = c .put-closing-in-rest-make .ensures .place in omega (arith, closing-short 0 (omega arith));
-  filled = filled-as (lines-rates (c .args .file .now) (head-of (c .in-Some .header)) (sym (c .in-Some .ensures tt)) (c .in-rest-make .field-0) (sym (c .in-rest-make .ensures tt))) (filled-first (c .put-closing-in-rest-make .ensures));
-}
+pub play-by-pages-requires : need.play-by-pages-requires
+play-by-pages-requires c κs =
+    let inside = header-inside (c .args .file .now) (head-of (c .args .file .now) (c .in-Some .header)) (sym (c .in-Some .ensures tt .value)) in
+    record { room = c .pre; short = inside .1; inside = inside .0 }
 
-pub part-open-end : need.part-open-end
-part-open-end c = let few = c .in-Some .header .few in search needs
-
-pub part-play-count : need.part-play-count
-part-play-count c = header-inside (c .args .file .now) (head-of (c .in-Some .header)) (sym (c .in-Some .ensures tt)) .0
-
-pub part-play-start : need.part-play-start
-part-play-start c =
-    let inside : c .in-Some .header .length ≤ length (c .args .file .now) = header-inside (c .args .file .now) (head-of (c .in-Some .header)) (sym (c .in-Some .ensures tt)) .0 in
-    search needs
-
-pub play-requires : need.play-requires
-play-requires c κs =
+pub returns-in-Rates : need.returns-in-Rates
+returns-in-Rates c =
     let file = c .args .file .now in
-    let inside = header-inside file (head-of (c .in-Some .header)) (sym (c .in-Some .ensures tt)) in
+    let h = head-of file (c .in-Some .header) in
     record {
-      room = c .pre;
-      short = inside .1;
-      inside = let e = ap length (take-rest file (c .in-Some .header .length)) ∙ length-drop (c .in-Some .header .length) file in omega arith;
+      fits = c .play-by-rates .ensures .fits;
+      filled = filled-as (sym (ap (λ (v : Valuation). by-valued file h (meant file v)) (c .in-Rates .is)) ∙ lines-valued file h (sym (c .in-Some .ensures tt .value))) (c .play-by-rates .ensures .filled);
     }
 
-all-of : (n : ℕ) (rights : List Right) → take (n - 0) rights ≡ take n rights
-all-of n rights = let e : n - 0 ≡ n = omega arith in ap (λ (k : ℕ). take k rights) e
+-- a part between two places, as a slice takes it
+part-is : (file : List ℕ) (at to n : ℕ) → to - at ≡ n → take (to - at) (drop at file) ≡ take n (drop at file)
+part-is file at to n e = ap (λ (k : ℕ). take k (drop at file)) e
 
--- the limit and the rights arrive as the header has them
-limit-is : (l : ℤ) → SFits w64 l → toZ w64 (ofZ w64 l) ≡ l
-limit-is l fits = toZ-ofZ fits
-
-pub returns-in-Ok-open : need.returns-in-Ok-open
-returns-in-Ok-open c =
+pub returns-in-Protocol : need.returns-in-Protocol
+returns-in-Protocol c =
     let file = c .args .file .now in
-    let h = c .in-Some .header in
-    let el = limit-is (h .limit) (search needs) in
-    let er = all-of (h .count) (h .rights) in
-    let o = c .in-Ok-open .ensures tt in
-    let opens : opening-fault (h .limit) (take (h .count) (h .rights)) ≡ None = (λ i. opening-fault (sym el i) (sym er i)) ∙ o .0 in
-    let begins : view (c .in-Ok-open .book) ≡ start (h .limit) (take (h .count) (h .rights)) = o .1 ∙ (λ i. start (el i) (er i)) in
+    let h = head-of file (c .in-Some .header) in
+    let pages = c .in-Protocol .pages in
+    let size = 2880 * c .in-Protocol .points in
+    let ahead = part-is file pages (pages + size) size (omega arith) in
+    let real = part-is file (pages + size) (pages + size + size) size (omega arith) in
+    let f = c .in-Protocol .factors in
+    let made = factors-of (getD f 0 0) (getD f 1 0) (getD f 2 0) in
+    let parts : by-made-factors file h (take (pages + size - pages) (drop pages file)) (take (pages + size + size - (pages + size)) (drop (pages + size) file)) made ≡ by-made-factors file h (take size (drop pages file)) (take size (drop (pages + size) file)) made = λ i. by-made-factors file h (ahead i) (real i) made in
     record {
-      fits = c .play .ensures .fits;
-      filled = filled-as (lines-opened file (head-of h) (sym (c .in-Some .ensures tt)) (c .in-Ok .rule) _ _ (sym (c .in-Ok .ensures tt)) opens begins (take-rest file (h .length))) (c .play .ensures .filled);
-    }
-
-pub put-closing-requires-in-Err : need.put-closing-requires-in-Err
-put-closing-requires-in-Err c κs = omega (arith, closing-short 0 (omega arith))
-
-pub returns : need.returns
-returns c =
-    let file = c .args .file .now in
-    let h = c .in-Some .header in
-    let el = limit-is (h .limit) (search needs) in
-    let er = all-of (h .count) (h .rights) in
-    let u = c .in-Err .field-0 in
-    let fails : opening-fault (h .limit) (take (h .count) (h .rights)) ≡ Some (u .refusal) = (λ i. opening-fault (sym el i) (sym er i)) ∙ c .in-Err .ensures tt .0 in
-    record {
-      fits = let p = c .put-closing-in-Err .ensures .place in omega (arith, closing-short 0 (omega arith));
-      filled = filled-as (lines-refused file (head-of h) (sym (c .in-Some .ensures tt)) (c .in-Ok .rule) (u .refusal) (sym (c .in-Ok .ensures tt)) fails) (filled-first (c .put-closing-in-Err .ensures));
+      fits = c .play-by-pages .ensures .fits;
+      filled = filled-as (parts ∙ sym (ap (λ (v : Valuation). by-valued file h (meant file v)) (c .in-Protocol .is)) ∙ lines-valued file h (sym (c .in-Some .ensures tt .value))) (c .play-by-pages .ensures .filled);
     }

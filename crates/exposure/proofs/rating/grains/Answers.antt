@@ -6,10 +6,10 @@ use lib.Signed.{_≤ℤ_}
 use mir.Val.{toZ, ofZ}
 use mir.Syntax.{w32, w64}
 use Rattle.std.proofs.shelf.Signed.{ints}
-use Rattle.exposure.specs.Bounds.{Bounded, wider}
+use Rattle.market.specs.Bounds.{Bounded, wider}
 use Rattle.exposure.specs.RateBounds.{grains-bounded}
 use Rattle.exposure.specs.Rates.{in-grains}
-use Rattle.exposure.proofs.Products.{product-fits, product-is}
+use Rattle.formulas.proofs.Products.{product-fits, product-is}
 use Rattle.exposure.proofs.rating.grains.Needs as need
 
 -- 10^13 is well below 10^15
