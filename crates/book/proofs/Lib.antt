@@ -4,3 +4,4 @@ pub mod Drawing
 pub mod Holdings
 pub mod Totals
 pub mod Answering
+pub mod Submitting

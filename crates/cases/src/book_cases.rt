@@ -25,11 +25,22 @@ const PATH: PathHour = PathHour {
     hour: 5,
 };
 
+fn rates() -> Result<Rates, Fail> {
+    match Rates::make([100, 0, -50, 200]) {
+        Ok(rates) => Ok(rates),
+        Err(_) => Err(Fail::new("no rates")),
+    }
+}
+
+pub(crate) fn reserved(heap: Global) -> Result<Room, Fail> {
+    match Room::reserve(heap) {
+        Ok(room) => Ok(room),
+        Err(_) => Err(Fail::new("no memory")),
+    }
+}
+
 fn opened(heap: Global, limit: i64, rights: &[Right]) -> Result<Book, Fail> {
-    let Ok(room) = Room::reserve(heap) else {
-        return Err(Fail::new("no memory"));
-    };
-    match Book::open(room, limit, rights) {
+    match Book::open(reserved(heap)?, limit, rights) {
         Ok(book) => Ok(book),
         Err(_) => Err(Fail::new("not opened")),
     }
@@ -217,9 +228,7 @@ fn rights_cover_what_is_free_of_them(rt: LibcRuntime) -> Result<(), Fail> {
             tenths: 300,
         }],
     )?;
-    let Ok(mut rates) = Rates::make([100, 0, -50, 200]) else {
-        return Err(Fail::new("no rates"));
-    };
+    let mut rates = rates()?;
     check_eq(book.free(PATH), 300)?;
     // 100 · 200 · (200 − 200)
     check_eq(
@@ -253,9 +262,7 @@ fn only_claims_above_zero_are_covered(rt: LibcRuntime) -> Result<(), Fail> {
             tenths: 300,
         }],
     )?;
-    let Ok(mut rates) = Rates::make([100, 0, -50, 200]) else {
-        return Err(Fail::new("no rates"));
-    };
+    let mut rates = rates()?;
     check_eq(
         book.submit(&mut rates, claiming(1, 0, 10, 50)?),
         Ok(Accepted {
@@ -283,9 +290,7 @@ fn a_refused_claim_keeps_no_cover(rt: LibcRuntime) -> Result<(), Fail> {
             tenths: 300,
         }],
     )?;
-    let Ok(mut rates) = Rates::make([100, 0, -50, 200]) else {
-        return Err(Fail::new("no rates"));
-    };
+    let mut rates = rates()?;
     let answer = book.submit(&mut rates, claiming(1, 1, 400, 50)?);
     check_eq(
         answer,
@@ -299,10 +304,7 @@ fn a_refused_claim_keeps_no_cover(rt: LibcRuntime) -> Result<(), Fail> {
 
 // The number that refuses an opening, or 0.
 fn opening(heap: Global, limit: i64, rights: &[Right]) -> Result<u8, Fail> {
-    let Ok(room) = Room::reserve(heap) else {
-        return Err(Fail::new("no memory"));
-    };
-    match Book::open(room, limit, rights) {
+    match Book::open(reserved(heap)?, limit, rights) {
         Ok(_) => Ok(0),
         Err(unopened) => Ok(unopened.refusal.number()),
     }

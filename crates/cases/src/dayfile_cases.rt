@@ -1,6 +1,6 @@
 // Examples of whole day files. The header has the limit 10,000,000, no rights and the rates
 // 100, 0, −50 and 200, in 32 bytes.
-use book::state::Room;
+use crate::book_cases::reserved;
 use dayfile::refusal::Refusal;
 use dayfile::refusal::RefusalDebug;
 use dayfile::refusal::RefusalPartialEq;
@@ -29,9 +29,7 @@ const OLD: u8 = 7;
 
 // Whether a file yields just these lines, and leaves what is past them.
 fn yields(heap: Global, file: &[u8], lines: &[u8]) -> Result<bool, Fail> {
-    let Ok(room) = Room::reserve(heap) else {
-        return Err(Fail::new("no memory"));
-    };
+    let room = reserved(heap)?;
     let mut answer = vec![in heap; OLD; 49_153]?;
     match run(room, file, &mut answer) {
         Ok(count) => Ok(count == lines.len() && answer.starts_with(lines) && answer[count] == OLD),
@@ -124,15 +122,11 @@ fn two_thousand_calls_and_no_more(rt: LibcRuntime) -> Result<(), Fail> {
     let heap = rt.alloc();
     let most = repeated(heap, b"W\x07\x00\x00\x00", 2000)?;
     let more = repeated(heap, b"W\x07\x00\x00\x00", 2001)?;
-    let Ok(room) = Room::reserve(heap) else {
-        return Err(Fail::new("no memory"));
-    };
+    let room = reserved(heap)?;
     let mut answer = vec![in heap; OLD; 49_152]?;
     // 2,000 lines of seven bytes.
     check_eq(run(room, &most, &mut answer), Ok(14_000))?;
-    let Ok(room) = Room::reserve(heap) else {
-        return Err(Fail::new("no memory"));
-    };
+    let room = reserved(heap)?;
     // The 2,001st call stands at 32 + 2,000 · 5.
     check_eq(run(room, &more, &mut answer), Ok(14_011))?;
     check(answer[14_000..14_011].starts_with(b"X 51 10032\n"))
@@ -151,9 +145,7 @@ fn the_longest_file(rt: LibcRuntime) -> Result<(), Fail> {
 #[test]
 fn a_small_answer_is_left_as_it_was(rt: LibcRuntime) -> Result<(), Fail> {
     let heap = rt.alloc();
-    let Ok(room) = Room::reserve(heap) else {
-        return Err(Fail::new("no memory"));
-    };
+    let room = reserved(heap)?;
     let mut answer = vec![in heap; OLD; 49_151]?;
     check_eq(run(room, SUBMIT, &mut answer), Err(Refusal::AnswerTooSmall))?;
     check(answer.iter().copied().max() == Some(OLD) && answer.iter().copied().min() == Some(OLD))

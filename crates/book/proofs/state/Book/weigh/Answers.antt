@@ -1,20 +1,15 @@
-use mathlib.Core.Path.{_≡_, refl, sym, ap, _∙_}
-use mathlib.Core.Bool.{true, false}
-use Prim.Native.Nat.{ℕ, _<_, _≤_}
+use mathlib.Core.Path.{refl, sym, ap, _∙_}
+use Prim.Native.Nat.{ℕ}
 use native.Mathlib.Omega.{arith}
-use borrow.Author.Tests.{lt-leb}
 use lib.IntN.{pos}
-use lib.ListN.{length}
-use Rattle.std.specs.declared.result.Result.the-variants.{Ok, Err}
-use Rattle.book.specs.declared.refusal.Refusal.the-variants as refusal
 use Rattle.book.specs.declared.row.Row.{Row}
-use Rattle.book.specs.Answers.{beyond, over}
 use Rattle.book.specs.Rows.{find}
-use Rattle.book.specs.Sums.{sum, grains}
+use Rattle.book.specs.Sums.{grains}
 use Rattle.book.specs.Views.{view}
-use Rattle.book.proofs.Answering.{within-ok, stood, weighed, valued-beyond, valued-over, valued-under}
-use Rattle.book.proofs.Exposures.{sum-bounds, grains-in}
-use Rattle.book.proofs.Totals.{in-all, raise-fits, raised, change-is, change-wide, limit-is, total-is, total-wide, left-fits, left-is}
+use Rattle.book.proofs.Answering.{within-ok, stood}
+use Rattle.book.proofs.Exposures.{grains-in}
+use Rattle.book.proofs.Submitting.{out-of-range, past-limit, within-limit}
+use Rattle.book.proofs.Totals.{reads}
 use Rattle.book.proofs.state.Book.weigh.Needs as need
 
 pub returns-in-Some : need.returns-in-Some
@@ -29,97 +24,52 @@ returns-in-Some g c =
 
 pub add-total : need.add-total
 add-total g c =
-    let ledger = c .args .self .now .standing in
-    let few : length (ledger .rows .items) ≤ 500 = omega arith in
-    let b = in-all (length (ledger .rows .items)) (sum (ledger .rows .items)) few (sum-bounds (ledger .rows .items) (ledger .within)) in
     let bx = within-ok _ (c .in-Continue-exposure .exposure) (c .in-Continue-exposure .ensures tt .answer) (g .R·Rule .within (c .args .rule .now) (c .args .submission .now) (c .cover-cover .result)) in
-    raise-fits (ledger .total) (sum (ledger .rows .items)) (c .in-Continue-exposure .exposure) (ledger .adds) b bx
+    reads (c .args .self .now) (c .in-Continue-exposure .exposure) bx .raise-fits
 
 pub passes-requires : need.passes-requires
 passes-requires g c κs =
-    let ledger = c .args .self .now .standing in
-    let few : length (ledger .rows .items) ≤ 500 = omega arith in
-    let b = in-all (length (ledger .rows .items)) (sum (ledger .rows .items)) few (sum-bounds (ledger .rows .items) (ledger .within)) in
     let bx = within-ok _ (c .in-Continue-exposure .exposure) (c .in-Continue-exposure .ensures tt .answer) (g .R·Rule .within (c .args .rule .now) (c .args .submission .now) (c .cover-cover .result)) in
-    record {
-      total = total-wide (c .args .self .now .limit) (ledger .total) (sum (ledger .rows .items)) (ledger .adds) b (c .args .self .now .low) (c .args .self .now .high);
-      change = change-wide (ledger .total) (sum (ledger .rows .items)) (c .in-Continue-exposure .exposure) (ledger .adds) b bx;
-    }
+    let r = reads (c .args .self .now) (c .in-Continue-exposure .exposure) bx in
+    record { total = r .total-wide; change = r .change-wide }
 
 pub sub-result : need.sub-result
 sub-result g c =
-    let ledger = c .args .self .now .standing in
-    let few : length (ledger .rows .items) ≤ 500 = omega arith in
-    let b = in-all (length (ledger .rows .items)) (sum (ledger .rows .items)) few (sum-bounds (ledger .rows .items) (ledger .within)) in
-    left-fits (c .args .self .now .limit) (ledger .total) (sum (ledger .rows .items)) (ledger .adds) b (c .args .self .now .low) (c .args .self .now .high)
+    let bx = within-ok _ (c .in-Continue-exposure .exposure) (c .in-Continue-exposure .ensures tt .answer) (g .R·Rule .within (c .args .rule .now) (c .args .submission .now) (c .cover-cover .result)) in
+    reads (c .args .self .now) (c .in-Continue-exposure .exposure) bx .left-fits
 
 pub returns-then-out-of-range : need.returns-then-out-of-range
 returns-then-out-of-range g c =
-    let ledger = c .args .self .now .standing in
-    let rows = ledger .rows .items in
-    let s = c .args .submission .now in
-    let m = g .R·Rule .worth (c .args .rule .now) in
-    let v = view (c .args .self .now) in
     let x = c .in-Continue-exposure .exposure in
-    let few : length rows ≤ 500 = omega arith in
-    let less : length rows < 500 = omega arith in
-    let b = in-all (length rows) (sum rows) few (sum-bounds rows (ledger .within)) in
-    let bx = within-ok _ x (c .in-Continue-exposure .ensures tt .answer) (g .R·Rule .within (c .args .rule .now) s (c .cover-cover .result)) in
-    let r = raised (ledger .total) (sum rows) x (ledger .adds) b bx in
-    let w = weighed v s m (c .cover-cover .result) (Ok x) (ap (λ (n : ℕ). find n rows) (sym (c .number .ensures)) ∙ c .in-rest .ensures tt) (lt-leb 500 (length rows) less) (c .cover-cover .ensures) (c .in-Continue-exposure .ensures tt .answer) in
+    let bx = within-ok _ x (c .in-Continue-exposure .ensures tt .answer) (g .R·Rule .within (c .args .rule .now) (c .args .submission .now) (c .cover-cover .result)) in
     record {
-      answer = sym (w ∙ valued-beyond v (c .cover-cover .result) x (ap beyond (sym r) ∙ sym (c .if-out-of-range .ensures tt)));
+      answer = out-of-range (c .args .self .now) (c .args .submission .now) (g .R·Rule .worth (c .args .rule .now)) (c .number .result) (c .cover-cover .result) x
+          (c .number .ensures) (c .in-rest .ensures tt) (omega arith) (c .cover-cover .ensures) (c .in-Continue-exposure .ensures tt .answer) (reads (c .args .self .now) x bx) (sym (c .if-out-of-range .ensures tt));
       fits = tt;
       kept = c .value .ensures .kept;
     }
 
 pub returns-then-passes : need.returns-then-passes
 returns-then-passes g c =
-    let ledger = c .args .self .now .standing in
-    let rows = ledger .rows .items in
-    let limit = c .args .self .now .limit in
-    let s = c .args .submission .now in
-    let m = g .R·Rule .worth (c .args .rule .now) in
-    let v = view (c .args .self .now) in
     let x = c .in-Continue-exposure .exposure in
-    let few : length rows ≤ 500 = omega arith in
-    let less : length rows < 500 = omega arith in
-    let b = in-all (length rows) (sum rows) few (sum-bounds rows (ledger .within)) in
-    let bx = within-ok _ x (c .in-Continue-exposure .ensures tt .answer) (g .R·Rule .within (c .args .rule .now) s (c .cover-cover .result)) in
-    let r = raised (ledger .total) (sum rows) x (ledger .adds) b bx in
-    let el = limit-is limit (ledger .total) (sum rows) (ledger .adds) b (c .args .self .now .low) (c .args .self .now .high) in
-    let et = total-is limit (ledger .total) (sum rows) (ledger .adds) b (c .args .self .now .low) (c .args .self .now .high) in
-    let ex = change-is (ledger .total) (sum rows) x (ledger .adds) b bx in
-    let left = left-is limit (ledger .total) (sum rows) (ledger .adds) b (c .args .self .now .low) (c .args .self .now .high) in
-    let w = weighed v s m (c .cover-cover .result) (Ok x) (ap (λ (n : ℕ). find n rows) (sym (c .number .ensures)) ∙ c .in-rest .ensures tt) (lt-leb 500 (length rows) less) (c .cover-cover .ensures) (c .in-Continue-exposure .ensures tt .answer) in
-    let o : over limit (sum rows) x ≡ true = (λ i. over (sym el i) (sym et i) (sym ex i)) ∙ sym (c .if-passes .ensures tt) in
+    let bx = within-ok _ x (c .in-Continue-exposure .ensures tt .answer) (g .R·Rule .within (c .args .rule .now) (c .args .submission .now) (c .cover-cover .result)) in
     record {
-      answer = (λ i. Err (refusal.SubmitOver (ex i) (left i))) ∙ sym (w ∙ valued-over v (c .cover-cover .result) x (ap beyond (sym r) ∙ sym (c .if-out-of-range .ensures tt)) o);
+      answer = past-limit (c .args .self .now) (c .args .submission .now) (g .R·Rule .worth (c .args .rule .now)) (c .number .result) (c .cover-cover .result) x
+          (c .number .ensures) (c .in-rest .ensures tt) (omega arith) (c .cover-cover .ensures) (c .in-Continue-exposure .ensures tt .answer) (reads (c .args .self .now) x bx)
+          (sym (c .if-out-of-range .ensures tt)) (sym (c .if-passes .ensures tt));
       fits = tt;
       kept = c .value .ensures .kept;
     }
 
 pub returns : need.returns
 returns g c =
-    let ledger = c .args .self .now .standing in
-    let rows = ledger .rows .items in
-    let limit = c .args .self .now .limit in
-    let s = c .args .submission .now in
-    let m = g .R·Rule .worth (c .args .rule .now) in
-    let v = view (c .args .self .now) in
     let x = c .in-Continue-exposure .exposure in
-    let few : length rows ≤ 500 = omega arith in
-    let less : length rows < 500 = omega arith in
-    let b = in-all (length rows) (sum rows) few (sum-bounds rows (ledger .within)) in
-    let bx = within-ok _ x (c .in-Continue-exposure .ensures tt .answer) (g .R·Rule .within (c .args .rule .now) s (c .cover-cover .result)) in
-    let r = raised (ledger .total) (sum rows) x (ledger .adds) b bx in
-    let el = limit-is limit (ledger .total) (sum rows) (ledger .adds) b (c .args .self .now .low) (c .args .self .now .high) in
-    let et = total-is limit (ledger .total) (sum rows) (ledger .adds) b (c .args .self .now .low) (c .args .self .now .high) in
-    let ex = change-is (ledger .total) (sum rows) x (ledger .adds) b bx in
-    let w = weighed v s m (c .cover-cover .result) (Ok x) (ap (λ (n : ℕ). find n rows) (sym (c .number .ensures)) ∙ c .in-rest .ensures tt) (lt-leb 500 (length rows) less) (c .cover-cover .ensures) (c .in-Continue-exposure .ensures tt .answer) in
-    let o : over limit (sum rows) x ≡ false = (λ i. over (sym el i) (sym et i) (sym ex i)) ∙ sym (c .if-passes .ensures tt) in
+    let bx = within-ok _ x (c .in-Continue-exposure .ensures tt .answer) (g .R·Rule .within (c .args .rule .now) (c .args .submission .now) (c .cover-cover .result)) in
+    let r = reads (c .args .self .now) x bx in
     record {
-      answer = (λ i. Ok (record { exposure = ex i; cover = c .cover-cover .result })) ∙ sym (w ∙ valued-under v (c .cover-cover .result) x (ap beyond (sym r) ∙ sym (c .if-out-of-range .ensures tt)) o);
-      fits = (omega arith, ap grains ex ∙ grains-in x bx);
+      answer = within-limit (c .args .self .now) (c .args .submission .now) (g .R·Rule .worth (c .args .rule .now)) (c .number .result) (c .cover-cover .result) x
+          (c .number .ensures) (c .in-rest .ensures tt) (omega arith) (c .cover-cover .ensures) (c .in-Continue-exposure .ensures tt .answer) r
+          (sym (c .if-out-of-range .ensures tt)) (sym (c .if-passes .ensures tt));
+      fits = (omega arith, ap grains (r .change-is) ∙ grains-in x bx);
       kept = c .value .ensures .kept;
     }
