@@ -25,6 +25,11 @@ const PATH: PathHour = PathHour {
     hour: 5,
 };
 
+const RIGHT: Right = Right {
+    path: PATH,
+    tenths: 300,
+};
+
 fn rates() -> Result<Rates, Fail> {
     match Rates::make([100, 0, -50, 200]) {
         Ok(rates) => Ok(rates),
@@ -220,14 +225,7 @@ fn numbers_stand_once(rt: LibcRuntime) -> Result<(), Fail> {
 
 #[test]
 fn rights_cover_what_is_free_of_them(rt: LibcRuntime) -> Result<(), Fail> {
-    let mut book = opened(
-        rt.alloc(),
-        100_000_000,
-        &[Right {
-            path: PATH,
-            tenths: 300,
-        }],
-    )?;
+    let mut book = opened(rt.alloc(), 100_000_000, &[RIGHT])?;
     let mut rates = rates()?;
     check_eq(book.free(PATH), 300)?;
     // 100 · 200 · (200 − 200)
@@ -254,14 +252,7 @@ fn rights_cover_what_is_free_of_them(rt: LibcRuntime) -> Result<(), Fail> {
 
 #[test]
 fn only_claims_above_zero_are_covered(rt: LibcRuntime) -> Result<(), Fail> {
-    let mut book = opened(
-        rt.alloc(),
-        100_000_000,
-        &[Right {
-            path: PATH,
-            tenths: 300,
-        }],
-    )?;
+    let mut book = opened(rt.alloc(), 100_000_000, &[RIGHT])?;
     let mut rates = rates()?;
     check_eq(
         book.submit(&mut rates, claiming(1, 0, 10, 50)?),
@@ -282,14 +273,7 @@ fn only_claims_above_zero_are_covered(rt: LibcRuntime) -> Result<(), Fail> {
 
 #[test]
 fn a_refused_claim_keeps_no_cover(rt: LibcRuntime) -> Result<(), Fail> {
-    let mut book = opened(
-        rt.alloc(),
-        0,
-        &[Right {
-            path: PATH,
-            tenths: 300,
-        }],
-    )?;
+    let mut book = opened(rt.alloc(), 0, &[RIGHT])?;
     let mut rates = rates()?;
     let answer = book.submit(&mut rates, claiming(1, 1, 400, 50)?);
     check_eq(

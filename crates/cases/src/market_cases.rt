@@ -6,6 +6,8 @@ use market::kind::KindDebug;
 use market::kind::KindPartialEq;
 use market::step::Step;
 use market::submission::Submission;
+use market::units::Price;
+use market::units::Tenths;
 use std::test::*;
 
 const BID: Figures = Figures {
@@ -46,6 +48,10 @@ fn made(figures: Figures, steps: &[Step]) -> u8 {
         Ok(_) => 0,
         Err(refusal) => refusal.number(),
     }
+}
+
+fn one_step(quantity: Tenths, price: Price) -> u8 {
+    made(BID, &[Step { quantity, price }])
 }
 
 // Eleven steps whose quantities rise by one.
@@ -107,66 +113,13 @@ fn ten_steps_and_no_more() -> Result<(), Fail> {
 
 #[test]
 fn steps_in_range() -> Result<(), Fail> {
-    check_eq(
-        made(
-            BID,
-            &[Step {
-                quantity: 0,
-                price: 5,
-            }],
-        ),
-        13,
-    )?;
-    check_eq(
-        made(
-            BID,
-            &[Step {
-                quantity: 100_000,
-                price: 5,
-            }],
-        ),
-        0,
-    )?;
-    check_eq(
-        made(
-            BID,
-            &[Step {
-                quantity: 100_001,
-                price: 5,
-            }],
-        ),
-        13,
-    )?;
-    check_eq(
-        made(
-            BID,
-            &[Step {
-                quantity: 1,
-                price: -1_000_000,
-            }],
-        ),
-        0,
-    )?;
-    check_eq(
-        made(
-            BID,
-            &[Step {
-                quantity: 1,
-                price: -1_000_001,
-            }],
-        ),
-        13,
-    )?;
-    check_eq(
-        made(
-            BID,
-            &[Step {
-                quantity: 1,
-                price: 1_000_001,
-            }],
-        ),
-        13,
-    )
+    check_eq(one_step(0, 5), 13)?;
+    check_eq(one_step(100_000, 5), 0)?;
+    check_eq(one_step(100_001, 5), 13)?;
+    check_eq(one_step(1, -1_000_000), 0)?;
+    check_eq(one_step(1, -1_000_001), 13)?;
+    check_eq(one_step(1, 1_000_000), 0)?;
+    check_eq(one_step(1, 1_000_001), 13)
 }
 
 #[test]

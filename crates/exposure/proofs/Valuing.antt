@@ -16,6 +16,8 @@ use Rattle.market.specs.Bounds.{Bounded}
 use Rattle.market.specs.Reading.{last-of}
 use Rattle.formulas.specs.Kinds.{path-step}
 use Rattle.formulas.proofs.Backs.{fits64}
+use Rattle.prices.specs.declared.path.Path.{Path}
+use Rattle.prices.specs.declared.spread.Spread.{Spread}
 use Rattle.prices.specs.Differences.{minus, floored}
 use Rattle.prices.specs.Entries.{Entry}
 use Rattle.exposure.specs.declared.fault.RuleFault.{RuleFault}
@@ -48,9 +50,16 @@ module _ (w : ℤ) (cover : ℕ) (c : Curve) where
   pub covered-none : None ≡ cond (ltb (last-of c .quantity) cover) None (Some (path-step w cover (last-of c))) → Err CoverAboveQuantity ≡ covered w cover c
   covered-none e = none-by (ltb (last-of c .quantity) cover) (path-step w cover (last-of c)) CoverAboveQuantity e
 
--- the same records have the same shortfall, and the same path
-pub shortfall-is : {X Y : Type 0} (real : X → ℕ → Entry) (ahead : Y → ℕ → Entry) (x x′ : X) (y y′ : Y) → x ≡ x′ → y ≡ y′ → (p : ℕ) → floored (minus (real x p) (ahead y p)) ≡ floored (minus (real x′ p) (ahead y′ p))
-shortfall-is real ahead x x′ y y′ e f p = λ i. floored (minus (real (e i) p) (ahead (f i) p))
+-- the records made for a shortfall and for a path hold what they are to
+pub shortfall-is : {X Y : Type 0} (real : X → ℕ → Entry) (ahead : Y → ℕ → Entry) (held made : Spread X Y) (x : X) (y : Y) → held ≡ made → made .first ≡ x → made .second ≡ y → (p : ℕ) → floored (minus (real (held .first) p) (ahead (held .second) p)) ≡ floored (minus (real x p) (ahead y p))
+shortfall-is real ahead held made x y q e f p =
+    let first : held .first ≡ x = (λ i. q i .first) ∙ e in
+    let second : held .second ≡ y = (λ i. q i .second) ∙ f in
+    λ i. floored (minus (real (first i) p) (ahead (second i) p))
 
-pub path-is : {X : Type 0} (real : X → ℕ → Entry) (x x′ : X) (s s′ k k′ : ℕ) → x ≡ x′ → s ≡ s′ → k ≡ k′ → floored (minus (real x s) (real x k)) ≡ floored (minus (real x′ s′) (real x′ k′))
-path-is real x x′ s s′ k k′ e f g = λ i. floored (minus (real (e i) (f i)) (real (e i) (g i)))
+pub path-is : {X : Type 0} (real : X → ℕ → Entry) (held made : Path X) (x : X) (s k : ℕ) → held ≡ made → made .inner ≡ x → made .source ≡ s → made .sink ≡ k → floored (minus (real (held .inner) (held .source)) (real (held .inner) (held .sink))) ≡ floored (minus (real x s) (real x k))
+path-is real held made x s k q e f g =
+    let inner : held .inner ≡ x = (λ i. q i .inner) ∙ e in
+    let source : held .source ≡ s = (λ i. q i .source) ∙ f in
+    let sink : held .sink ≡ k = (λ i. q i .sink) ∙ g in
+    λ i. floored (minus (real (inner i) (source i)) (real (inner i) (sink i)))

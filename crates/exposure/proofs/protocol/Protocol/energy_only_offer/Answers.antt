@@ -1,4 +1,4 @@
-use mathlib.Core.Path.{_≡_, ap, _∙_}
+use mathlib.Core.Path.{ap, _∙_}
 use Rattle.std.proofs.shelf.Results.{err-from-errBy}
 use Rattle.std.specs.declared.result.Result.the-variants.{Ok}
 use Rattle.prices.specs.Entries.{Entry}
@@ -23,11 +23,7 @@ pub returns-in-Break-s : need.returns-in-Break-s
 unfolding offer-worth
 returns-in-Break-s g c =
     let p = err-from-errBy (c .from-residual-in-Break-s .result) (c .from-residual-in-Break-s .ensures .1) in
-    let q = c .new-shortfall .ensures in
-    let s = c .new-shortfall .result in
-    let mid : s .inner .first ≡ c .new .result .first = λ i. q i .first in
-    let rest : s .inner .second ≡ c .new .result .second = λ i. q i .second in
-    let same = shortfall-is (g .T·Record .meaning) (g .D·Record .meaning) (s .inner .first) (c .args .self .now .«real_time») (s .inner .second) (c .args .self .now .«day_ahead») (mid ∙ c .new .ensures .first) (rest ∙ c .new .ensures .second) (c .args .point) in
+    let same = shortfall-is (g .T·Record .meaning) (g .D·Record .meaning) (c .new-shortfall .result .inner) (c .new .result) (c .args .self .now .«real_time») (c .args .self .now .«day_ahead») (c .new-shortfall .ensures) (c .new .ensures .first) (c .new .ensures .second) (c .args .point) in
     rw (p .1, p .2)
     (goes (c .in-Continue-a .a .cents) _ _ _ (c .in-Continue-a .ensures tt)
     (goes (c .in-Continue-b .b .cents) _ _ _ (c .in-Continue-b .ensures tt) (stops _ _ _ (c .in-Break-s .ensures tt ∙ ap (λ (e : Entry). figure-at e 115 90 (c .args .point) (c .args .hour)) same))))
@@ -35,11 +31,7 @@ returns-in-Break-s g c =
 pub returns : need.returns
 unfolding offer-worth
 returns g c =
-    let q = c .new-shortfall .ensures in
-    let s = c .new-shortfall .result in
-    let mid : s .inner .first ≡ c .new .result .first = λ i. q i .first in
-    let rest : s .inner .second ≡ c .new .result .second = λ i. q i .second in
-    let same = shortfall-is (g .T·Record .meaning) (g .D·Record .meaning) (s .inner .first) (c .args .self .now .«real_time») (s .inner .second) (c .args .self .now .«day_ahead») (mid ∙ c .new .ensures .first) (rest ∙ c .new .ensures .second) (c .args .point) in
+    let same = shortfall-is (g .T·Record .meaning) (g .D·Record .meaning) (c .new-shortfall .result .inner) (c .new .result) (c .args .self .now .«real_time») (c .args .self .now .«day_ahead») (c .new-shortfall .ensures) (c .new .ensures .first) (c .new .ensures .second) (c .args .point) in
     goes (c .in-Continue-a .a .cents) _ _ _ (c .in-Continue-a .ensures tt)
     (goes (c .in-Continue-b .b .cents) _ _ _ (c .in-Continue-b .ensures tt)
     (goes (c .in-Continue-s .s .cents) _ _ _ (c .in-Continue-s .ensures tt ∙ ap (λ (e : Entry). figure-at e 115 90 (c .args .point) (c .args .hour)) same)
