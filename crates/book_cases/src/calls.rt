@@ -37,7 +37,7 @@ fn rates() -> Result<Rates, Fail> {
     }
 }
 
-pub(crate) fn reserved(heap: Global) -> Result<Room, Fail> {
+fn reserved(heap: Global) -> Result<Room, Fail> {
     match Room::reserve(heap) {
         Ok(room) => Ok(room),
         Err(_) => Err(Fail::new("no memory")),

@@ -1,6 +1,6 @@
 // Examples of whole day files. The header has the limit 10,000,000, no rights and the rates
 // 100, 0, −50 and 200, in 32 bytes.
-use crate::book_cases::reserved;
+use book::state::Room;
 use dayfile::refusal::Refusal;
 use dayfile::refusal::RefusalDebug;
 use dayfile::refusal::RefusalPartialEq;
@@ -26,6 +26,13 @@ const LIMIT: &[u8] = b"DCB\x01\x00\x80\x96\x98\x00\x00\x00\x00\x00\x00\x00\x01\
 
 // What the answer holds before a run.
 const OLD: u8 = 7;
+
+fn reserved(heap: Global) -> Result<Room, Fail> {
+    match Room::reserve(heap) {
+        Ok(room) => Ok(room),
+        Err(_) => Err(Fail::new("no memory")),
+    }
+}
 
 // Whether a file yields just these lines, and leaves what is past them.
 fn yields(heap: Global, file: &[u8], lines: &[u8]) -> Result<bool, Fail> {

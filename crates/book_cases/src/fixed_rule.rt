@@ -1,6 +1,6 @@
 // The rule of one value: every submission is worth it, at every cover up to its quantity.
 ghost use mathlib.Core.Path.{_≡_};
-ghost use Rattle.cases.specs.Fixed.{clamped, fixed-worth, fixed-within};
+ghost use Rattle.book_cases.specs.Fixed.{clamped, fixed-worth, fixed-within};
 use crate::fixed::Fixed;
 use exposure::fault::RuleFault;
 use exposure::rule::Rule;
