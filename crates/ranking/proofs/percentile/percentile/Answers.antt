@@ -9,7 +9,7 @@ use Rattle.ranking.proofs.Shares.{share_low, share_high}
 use Rattle.ranking.proofs.Tallies.{one, one_yes, one_no, one_none, tally_turn, all_counted}
 use Rattle.ranking.proofs.Candidates.{Fits, under, least_fits, equal_fits, some_fits, within_some}
 use Rattle.ranking.proofs.percentile.percentile.Goals as goal
-use Rattle.ranking.proofs.percentile.percentile.Goals.{in-Some-counted+then-not-not-after, then-not-after, else-not-after, in-Some-counted+else-not-not-after, in-default-counted}
+use Rattle.ranking.proofs.percentile.percentile.Goals.{in-Some-counted+then-not-not_after, then-not_after, else-not_after, in-Some-counted+else-not-not_after, in_default-counted}
 
 one_before : {E : Type 0} (le : E → E → Bool) (x : E) (o : Option E) (z : E) (b : Bool) → o ≡ Some z → b ≡ le x z → b ≡ false → one (under le x) o ≡ 1
 one_before le x o z b is made f = one_yes (under le x) o z (not b) is (ap not made) (ap not f)
@@ -33,25 +33,25 @@ loop-e-preserved g c =
     let upto : g.row.E.Denot → Bool = λ z. le z x in
     let reached : c.match-counted.reached ≡ c.loop-e.reached + one upto o =
     elim c.match-counted.branch [
-      | in-Some-counted+then-not-not-after w ↦
-          elim w.if-not-after.branch [
-            | then-not-after v ↦ omega (arith, w.reached-is, v.reached-is, one_yes upto o w.in-Some-counted.other w.not-after.result w.in-Some-counted.is w.not-after.ensures v.if-not-after.true)
-            | else-not-after v ↦ omega (arith, w.reached-is, v.reached-is, one_no upto o w.in-Some-counted.other w.not-after.result w.in-Some-counted.is w.not-after.ensures v.if-not-after.false)
+      | in-Some-counted+then-not-not_after w ↦
+          elim w.if-not_after.branch [
+            | then-not_after v ↦ omega (arith, w.reached-is, v.reached-is, one_yes upto o w.in-Some-counted.other w.not_after.result w.in-Some-counted.is w.not_after.ensures v.if-not_after.true)
+            | else-not_after v ↦ omega (arith, w.reached-is, v.reached-is, one_no upto o w.in-Some-counted.other w.not_after.result w.in-Some-counted.is w.not_after.ensures v.if-not_after.false)
           ]
-      | in-Some-counted+else-not-not-after w ↦
-          elim w.if-not-after.branch [
-            | then-not-after v ↦ omega (arith, w.reached-is, v.reached-is, one_yes upto o w.in-Some-counted.other w.not-after.result w.in-Some-counted.is w.not-after.ensures v.if-not-after.true)
-            | else-not-after v ↦ omega (arith, w.reached-is, v.reached-is, one_no upto o w.in-Some-counted.other w.not-after.result w.in-Some-counted.is w.not-after.ensures v.if-not-after.false)
+      | in-Some-counted+else-not-not_after w ↦
+          elim w.if-not_after.branch [
+            | then-not_after v ↦ omega (arith, w.reached-is, v.reached-is, one_yes upto o w.in-Some-counted.other w.not_after.result w.in-Some-counted.is w.not_after.ensures v.if-not_after.true)
+            | else-not_after v ↦ omega (arith, w.reached-is, v.reached-is, one_no upto o w.in-Some-counted.other w.not_after.result w.in-Some-counted.is w.not_after.ensures v.if-not_after.false)
           ]
-      | in-default-counted w ↦ omega (arith, w.reached-is, one_none upto o w.in-default-counted.is)
+      | in_default-counted w ↦ omega (arith, w.reached-is, one_none upto o w.in_default-counted.is)
     ] in
     let before : c.match-counted.before ≡ c.loop-e.before + one (under le x) o =
     elim c.match-counted.branch [
-      | in-Some-counted+then-not-not-after w ↦
-          omega (arith, w.before-is, one_before le x o w.in-Some-counted.other w.not-after-in-Some-counted.result w.in-Some-counted.is w.not-after-in-Some-counted.ensures w.if-not-not-after.true)
-      | in-Some-counted+else-not-not-after w ↦
-          omega (arith, w.before-is, one_not_before le x o w.in-Some-counted.other w.not-after-in-Some-counted.result w.in-Some-counted.is w.not-after-in-Some-counted.ensures w.if-not-not-after.false)
-      | in-default-counted w ↦ omega (arith, w.before-is, one_none (under le x) o w.in-default-counted.is)
+      | in-Some-counted+then-not-not_after w ↦
+          omega (arith, w.before-is, one_before le x o w.in-Some-counted.other w.not_after-in-Some-counted.result w.in-Some-counted.is w.not_after-in-Some-counted.ensures w.if-not-not_after.true)
+      | in-Some-counted+else-not-not_after w ↦
+          omega (arith, w.before-is, one_not_before le x o w.in-Some-counted.other w.not_after-in-Some-counted.result w.in-Some-counted.is w.not_after-in-Some-counted.ensures w.if-not-not_after.false)
+      | in_default-counted w ↦ omega (arith, w.before-is, one_none (under le x) o w.in_default-counted.is)
     ] in
     let a = tally_turn upto xs c.loop-e.e c.loop-e.reached c.match-counted.reached o c.loop-e-test.true c.index-days-e.is c.loop-e.invariant.0 c.loop-e.invariant.2 reached in
     let b = tally_turn (under le x) xs c.loop-e.e c.loop-e.before c.match-counted.before o c.loop-e-test.true c.index-days-e.is c.loop-e.invariant.1 c.loop-e.invariant.3 before in
@@ -62,7 +62,7 @@ loop-d-preserved g c e y lt is fits =
     let le = g.E.Ordered.upto in
     let x = c.in-Some.candidate in
     let xs = c.args.days.now in
-    let k = c.share-of-k.result in
+    let k = c.share_of-k.result in
     let here : on_day xs c.loop-d.d ≡ Some x = at_day xs c.loop-d.d c.index-days-d.result x (omega arith) c.index-days-d.is c.in-Some.is in
     let reached = all_counted (λ z. le z x) xs c.loop-e.e c.loop-e.reached c.loop-e-test.false c.loop-e.invariant.0 in
     let before = all_counted (under le x) xs c.loop-e.e c.loop-e.before c.loop-e-test.false c.loop-e.invariant.1 in
@@ -82,7 +82,7 @@ returns-then-before-k g c =
     let x = c.in-Some.candidate in
     let xs = c.args.days.now in
     let p = c.args.p in
-    let k = c.share-of-k.result in
+    let k = c.share_of-k.result in
     let here : on_day xs c.loop-d.d ≡ Some x = at_day xs c.loop-d.d c.index-days-d.result x (omega arith) c.index-days-d.is c.in-Some.is in
     let reached = all_counted (λ z. le z x) xs c.loop-e.e c.loop-e.reached c.loop-e-test.false c.loop-e.invariant.0 in
     let before = all_counted (under le x) xs c.loop-e.e c.loop-e.before c.loop-e-test.false c.loop-e.invariant.1 in
@@ -92,7 +92,7 @@ returns-then-before-k g c =
       from_one = omega arith;
       to_hundred = omega arith;
       day = c.loop-d.d;
-      answers = subst P (c.share-of-k.ensures ∙ ap (share p) c.count-present-n.ensures.is) (record {
+      answers = subst P (c.share_of-k.ensures ∙ ap (share p) c.count_present-n.ensures.is) (record {
         within = c.loop-d-test.true;
         stands = here;
         enough = fits.enough;
@@ -107,10 +107,10 @@ returns-after-loop-d g c =
     let le = g.E.Ordered.upto in
     let total = g.met.E.Ordered.total in
     let xs = c.args.days.now in
-    let n = c.count-present-n.result in
+    let n = c.count_present-n.result in
     let low = share_low c.args.p n (omega arith) (omega arith) in
     let high = share_high c.args.p n (omega arith) in
-    let found = some_fits le total xs c.share-of-k.result (omega (arith, low, c.share-of-k.ensures)) (omega (arith, high, c.share-of-k.ensures, c.count-present-n.ensures.is)) in
+    let found = some_fits le total xs c.share_of-k.result (omega (arith, low, c.share_of-k.ensures)) (omega (arith, high, c.share_of-k.ensures, c.count_present-n.ensures.is)) in
     let within = within_some xs found.0 found.1 found.2 in
     absurd (c.loop-d.invariant found.0 found.1 (omega (arith, within, c.loop-d-test.false)) found.2 found.3)
 
@@ -121,5 +121,5 @@ returns-then-p-lt1 g c =
 
 pub returns-then-n-eq0 : goal.returns-then-n-eq0
 returns-then-n-eq0 g c =
-    let none : Unanswered c.args.days.now c.args.p = inl (omega (arith, c.count-present-n.ensures.is)) in
+    let none : Unanswered c.args.days.now c.args.p = inl (omega (arith, c.count_present-n.ensures.is)) in
     record { is = percentile_is g.E.Ordered.upto c.args.days.now c.args.p (Err (record {})) none; means = none }

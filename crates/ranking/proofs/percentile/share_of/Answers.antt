@@ -3,14 +3,14 @@ use Rattle.std.proofs.Common.{arith}
 use Rattle.ranking.proofs.Shares.{share_high, share_parts}
 use Rattle.ranking.proofs.percentile.share_of.Goals as goal
 
-pub overflow-mul-result : goal.overflow-mul-result
-overflow-mul-result c =
+pub overflow_mul-result : goal.overflow_mul-result
+overflow_mul-result c =
     let is = share_parts c.args.p c.args.n in
     let high = share_high c.args.p c.args.n c.requires in
     omega arith
 
-pub overflow-add-result-2 : goal.overflow-add-result-2
-overflow-add-result-2 c =
+pub overflow_add-result-2 : goal.overflow_add-result-2
+overflow_add-result-2 c =
     let is = share_parts c.args.p c.args.n in
     let high = share_high c.args.p c.args.n c.requires in
     omega arith

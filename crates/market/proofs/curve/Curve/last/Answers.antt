@@ -6,8 +6,8 @@ use Rattle.market.specs.Reading.{blank, steps_of}
 use Rattle.market.proofs.Orderings.{lawful_one, last_fits}
 use Rattle.market.proofs.curve.Curve.last.Goals as goal
 
-pub overflow-sub-result : goal.overflow-sub-result
-overflow-sub-result c =
+pub overflow_sub-result : goal.overflow_sub-result
+overflow_sub-result c =
     let curve = c.args.self.now in
     let k : 1 ≤ length (steps_of curve) = lawful_one curve.side (steps_of curve) curve.kept in
     let e : length (steps_of curve) ≡ min curve.count (length curve.steps) = length-take curve.count curve.steps in

@@ -7,19 +7,20 @@ use Rattle.market.specs.Reading.{blank}
 use Rattle.market.proofs.Making.{curve_made, curve_refused}
 use Rattle.market.proofs.curve.Curve.make.Goals as goal
 
-pub returns-then-not-keeps-rules : goal.returns-then-not-keeps-rules
-returns-then-not-keeps-rules c = curve_refused c.args.side c.args.steps.now (sym c.if-not-keeps-rules.ensures)
+pub returns-then-not-keeps_rules : goal.returns-then-not-keeps_rules
+returns-then-not-keeps_rules c = curve_refused c.args.side c.args.steps.now (sym c.if-not-keeps_rules.ensures)
 
 pub packed-requires : goal.packed-requires
-packed-requires c = lawful_short c.args.side c.args.steps.now (sym c.if-not-keeps-rules.ensures)
+packed-requires c = lawful_short c.args.side c.args.steps.now (sym c.if-not-keeps_rules.ensures)
 
-pub invariant-of-result : goal.invariant-of-result
-invariant-of-result c =
+pub invariant_of-result : goal.invariant_of-result
+invariant_of-result c =
     let xs = c.args.steps.now in
-    let l = sym c.if-not-keeps-rules.ensures in (
-      lawful_short c.args.side xs l,
-      (ap (λ (h : List Step). lawful c.args.side (take (length xs) h)) c.packed.ensures ∙ ap (lawful c.args.side) (take-append_seam xs (replicate (10 - length xs) blank)) ∙ l, tt),
-    )
+    let l = sym c.if-not-keeps_rules.ensures in
+    record {
+      short = lawful_short c.args.side xs l;
+      kept = ap (λ (h : List Step). lawful c.args.side (take (length xs) h)) c.packed.ensures ∙ ap (lawful c.args.side) (take-append_seam xs (replicate (10 - length xs) blank)) ∙ l;
+    }
 
 pub returns : goal.returns
-returns c = curve_made c.args.side c.args.steps.now _ _ c.packed.ensures _ (sym c.if-not-keeps-rules.ensures)
+returns c = curve_made c.args.side c.args.steps.now _ _ c.packed.ensures _ (sym c.if-not-keeps_rules.ensures)
