@@ -1,7 +1,7 @@
 -- The greatest over the steps, in words.
 use Rattle.std.proofs.Common.{◌≡◌, ℕ, ◌≤◌, Bool, true, false, cond, ◌⊎◌, List, [], ◌∷◌, length, ℤ, pos, negsuc, ◌+ℤ◌, ◌-ℤ◌, ◌*ℤ◌, ◌≤ℤ◌, sym, refl, ◌∙◌, inl, inr, arith}
 use lib.Signed.{le_z, lt_z}
-use Rattle.std.specs.List.{AllByRecursion as All}
+use Rattle.std.specs.List.{AllByRecursion}
 use Rattle.std.specs.Int.{int_max, int_min}
 use Rattle.std.proofs.lemmas.Int.{ints, clamps}
 use Rattle.market.specs.declared.step.Step.{Step}
@@ -28,7 +28,7 @@ module _ (f : Step → ℤ) where
   top_below top [] = omega (arith, ints)
   top_below top (s ∷ ss) = through top (int_max top (f s)) _ (max_left top (f s)) (top_below (int_max top (f s)) ss)
 
-  each_below : (top : ℤ) (xs : List Step) → All (λ s. f s ≤ℤ greatest f top xs) xs
+  each_below : (top : ℤ) (xs : List Step) → AllByRecursion (λ s. f s ≤ℤ greatest f top xs) xs
   each_below top [] = tt
   each_below top (s ∷ ss) = (through (f s) (int_max top (f s)) _ (max_right top (f s)) (top_below (int_max top (f s)) ss), each_below (int_max top (f s)) ss)
 

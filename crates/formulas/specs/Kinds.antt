@@ -1,6 +1,6 @@
 -- The exposure of each kind, in grains: percentile figures in cents, factors in hundredths, steps of a curve. Assumes nothing.
 use Rattle.std.specs.Prelude.{◌≡◌, ℕ, ◌-◌, cond, ◌⊎◌, List, [], ◌∷◌, ℤ, pos, ◌+ℤ◌, ◌-ℤ◌, ◌*ℤ◌, neg_ℤ, ◌≤ℤ◌, int_le, int_lt}
-use Rattle.std.specs.List.{AllByRecursion as All}
+use Rattle.std.specs.List.{AllByRecursion}
 use Rattle.std.specs.Int.{int_max, int_min}
 use Rattle.market.specs.declared.step.Step.{Step}
 
@@ -27,7 +27,7 @@ greatest f top (s ∷ ss) = greatest f (int_max top (f s)) ss
 
 -- the same in words: no step gives more, and one gives as much
 pub record Greatest (f : Step → ℤ) (xs : List Step) (r : ℤ) : Type 0 where
-  pub none_more : All (λ s. f s ≤ℤ r) xs
+  pub none_more : AllByRecursion (λ s. f s ≤ℤ r) xs
   pub reached : SomeStep (λ s. f s ≡ r) xs
 
 abbrev pub energy_bid : ℕ → ℤ → List Step → ℤ

@@ -75,7 +75,7 @@ impl Terms for ThreePart {
 
 pub(crate) fn over_blocks<B: Terms>(terms: &B, steps: &[Step]) -> i64
     requires { Orderly 0 steps.now }
-    ensures value { result ≡ over_blocks (adds terms.now) 0 steps.now }
+    ensures value { result ≡ over_blocks (B.adds terms.now) 0 steps.now }
     ensures size { Bounded 100000000000000 result }
 {
     let mut sum = 0;

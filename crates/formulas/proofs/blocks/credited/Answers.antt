@@ -21,11 +21,11 @@ returns-then-b-gt0 c =
 pub returns-then-b-lt0 : goal.returns-then-b-lt0
 returns-then-b-lt0 c =
     let b = c.args.b in
-    let r = c.in-grains-then-b-lt0.result in
+    let r = c.in_grains-then-b-lt0.result in
     let e : to_z w32 (of_z w32 b) ≡ b = to_z-of_z w32 b c.ranges.b in
     let t : lt_z (pos 0) b ≡ false = rw e at c.if-b-gt0.false in
     let u : lt_z b (pos 0) ≡ true = rw e at c.if-b-lt0.true in
-    let v : r ≡ grains 100 b c.args.tenths = rw e at c.in-grains-then-b-lt0.ensures.value in
+    let v : r ≡ grains 100 b c.args.tenths = rw e at c.in_grains-then-b-lt0.ensures.value in
     let x : to_z w64 (of_z w64 (pos 0 -ℤ to_z w64 (of_z w64 r))) ≡ neg_ℤ r = omega (arith, ints) in
     record {
       value = x ∙ ap neg_ℤ v ∙ sym (credit_below c.args.e2 c.args.tenths b t u);

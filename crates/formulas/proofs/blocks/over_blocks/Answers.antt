@@ -4,8 +4,8 @@ use Rattle.market.specs.declared.step.Step.{Step}
 use Rattle.formulas.proofs.Sums.{orderly_more, turn, whole_is}
 use Rattle.formulas.proofs.blocks.over_blocks.Goals as goal
 
-pub overflow-sub-step : goal.overflow-sub-step
-overflow-sub-step g c =
+pub overflow_sub-step : goal.overflow_sub-step
+overflow_sub-step g c =
     let d : Step = record { quantity = 0; price = pos 0 } in
     let fit = (orderly_more c.loop-step.before c.args.steps.now c.loop-step.step-index d c.loop-step-test.true c.loop-step.invariant.2).0 in
     omega (arith, fit.above)

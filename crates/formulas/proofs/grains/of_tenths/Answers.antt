@@ -8,8 +8,8 @@ use Rattle.formulas.proofs.grains.of_tenths.Goals as goal
 small : (price : ℤ) (m : ℕ) → Bounded 1000000000 price → m ≤ 100000 → Bounded 1000000000000000 (price *ℤ pos m)
 small price m b h = wider (1000000000 * m) _ _ (omega arith) (bounded_times 1000000000 m price b)
 
-pub overflow-mul-result : goal.overflow-mul-result
-overflow-mul-result c =
+pub overflow_mul-result : goal.overflow_mul-result
+overflow_mul-result c =
     product_fits _ _ c.args.price (pos c.args.tenths) (to_z-of_z w64 _ c.ranges.price) (omega (arith, ints)) (small _ _ c.requires.0 c.requires.1)
 
 pub returns : goal.returns

@@ -8,8 +8,8 @@ use Rattle.formulas.specs.Kinds.{bid_step, energy_bid, Greatest}
 use Rattle.formulas.proofs.Tops.{top_turn, top_all}
 use Rattle.formulas.proofs.kinds.energy_bid.Goals as goal
 
-pub bid-step-requires : goal.bid-step-requires
-bid-step-requires c = (
+pub bid_step-requires : goal.bid_step-requires
+bid_step-requires c = (
   c.args.factors.first,
   (
     record { low = omega (arith, ints); high = omega (arith, ints) },

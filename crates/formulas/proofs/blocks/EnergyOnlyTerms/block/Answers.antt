@@ -5,20 +5,20 @@ use Rattle.formulas.specs.Kinds.{grains, credit}
 use Rattle.formulas.proofs.Terms.{offer_taken, offer_left}
 use Rattle.formulas.proofs.blocks.EnergyOnlyTerms.block.Goals as goal
 
-pub overflow-add-result : goal.overflow-add-result
-overflow-add-result c = omega (arith, ints)
+pub overflow_add-result : goal.overflow_add-result
+overflow_add-result c = omega (arith, ints)
 
 pub returns-then-price-self : goal.returns-then-price-self
 returns-then-price-self c =
     let t = c.args.self.now in
     let p = c.args.price in
     let m = c.args.tenths in
-    let h = c.in-grains-held.result in
+    let h = c.in_grains-held.result in
     let r = c.credited.result in
     let test : true ≡ le_z p t.a.cents = omega (arith, ints) in
     let es : to_z w32 (of_z w32 t.s.cents) ≡ t.s.cents = omega (arith, ints) in
     let eb : to_z w32 (of_z w32 t.b.cents) ≡ t.b.cents = omega (arith, ints) in
-    let v : h ≡ grains t.factors.e3 t.s.cents m = rw es at c.in-grains-held.ensures.value in
+    let v : h ≡ grains t.factors.e3 t.s.cents m = rw es at c.in_grains-held.ensures.value in
     let w : r ≡ credit t.factors.e2 t.b.cents m = c.credited.ensures.value ∙ ap (λ z. credit t.factors.e2 z m) eb in
     let x : to_z w64 (of_z w64 (to_z w64 (of_z w64 h) +ℤ to_z w64 (of_z w64 r))) ≡ h +ℤ r = omega (arith, ints) in
     record {
@@ -31,10 +31,10 @@ returns-else-price-self c =
     let t = c.args.self.now in
     let p = c.args.price in
     let m = c.args.tenths in
-    let h = c.in-grains-held.result in
+    let h = c.in_grains-held.result in
     let test : false ≡ le_z p t.a.cents = omega (arith, ints) in
     let es : to_z w32 (of_z w32 t.s.cents) ≡ t.s.cents = omega (arith, ints) in
-    let v : h ≡ grains t.factors.e3 t.s.cents m = rw es at c.in-grains-held.ensures.value in
+    let v : h ≡ grains t.factors.e3 t.s.cents m = rw es at c.in_grains-held.ensures.value in
     let x : to_z w64 (of_z w64 h) ≡ h = omega (arith, ints) in
     record {
       value = x ∙ v ∙ sym (offer_left t.factors.e2 t.factors.e3 m t.a.cents t.b.cents t.s.cents p (sym test));
