@@ -1,4 +1,5 @@
 //! The exposure of each kind of submission, in grains, over percentile figures and credit factors.
+#![tactic(auto)]
 
 mod blocks;
 pub mod factors;

@@ -1,4 +1,5 @@
 //! What is traded: units, steps, curves and submissions, and what refuses them.
+#![tactic(auto)]
 
 pub mod curve;
 pub mod curves;

@@ -1,4 +1,4 @@
-use Rattle.std.proofs.Common.{◌≡◌, ◌*◌, ◌≤◌, ℤ, pos, ◌+ℤ◌, ◌-ℤ◌, ap, ◌∙◌, arith, lit≤, w32, w64, to_z, of_z}
+use Rattle.std.proofs.Common.{◌≡◌, ◌*◌, ◌≤◌, pos, ◌+ℤ◌, ◌-ℤ◌, ap, ◌∙◌, arith, lit≤, w32, w64, to_z, of_z}
 use Rattle.std.proofs.lemmas.Int.{ints, clamps, to_z-of_z}
 use Rattle.market.specs.Bounds.{bounded_less, bounded_sum, bounded_max, bounded_zero, wider}
 use Rattle.formulas.proofs.Backs.{less_back, sum_back, fits32, fits64, bounded_is}

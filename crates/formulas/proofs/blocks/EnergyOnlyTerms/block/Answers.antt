@@ -1,4 +1,4 @@
-use Rattle.std.proofs.Common.{◌≡◌, true, false, ℤ, ◌+ℤ◌, sym, ap, ◌∙◌, arith, w32, w64, to_z, of_z}
+use Rattle.std.proofs.Common.{◌≡◌, true, false, ◌+ℤ◌, sym, ap, ◌∙◌, arith, w32, w64, to_z, of_z}
 use lib.Signed.{le_z}
 use Rattle.std.proofs.lemmas.Int.{ints}
 use Rattle.formulas.specs.Kinds.{grains, credit}
