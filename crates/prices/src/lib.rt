@@ -1,4 +1,5 @@
 //! Price records: what they mean, what they answer, and their fault for a point that they do not know.
+#![tactic(auto)]
 
 mod difference;
 pub mod fault;

@@ -3,6 +3,6 @@ use Rattle.prices.proofs.path.PathRecord.ask.Goals as goal
 
 pub difference-requires : goal.difference-requires
 difference-requires g c = (
-  answered_within _ _ _ _ (g.R.Record.ranged _ _) c.in-ok-source.ensures,
-  answered_within _ _ _ _ (g.R.Record.ranged _ _) c.in-ok-sink.ensures,
+  answered_within _ _ _ _ (g.R.Record.ranged _ _) c.in_ok-source.ensures,
+  answered_within _ _ _ _ (g.R.Record.ranged _ _) c.in_ok-sink.ensures,
 )
