@@ -1,5 +1,6 @@
 //! What a submission exposes the market operator to: the rule interface, the rate rule and the
 //! protocol rule.
+#![tactic(auto)]
 
 pub mod fault;
 mod figures;

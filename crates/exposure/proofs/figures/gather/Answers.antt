@@ -8,12 +8,12 @@ loop-k-init g c = (refl, λ j low. absurd (omega arith))
 
 pub loop-k-preserved : goal.loop-k-preserved
 loop-k-preserved g c =
-    told_more (g.R.Record.meaning c.args.source.now c.args.point) c.args.hour c.loop-k.days c.loop-k.k c.in-ok-days.field-0 c.loop-k.invariant c.loop-k-test.true c.in-ok-days.ensures
+    told_more (g.R.Record.meaning c.args.source.now c.args.point) c.args.hour c.loop-k.days c.loop-k.k c.in_ok-days.field-0 c.loop-k.invariant c.loop-k-test.true c.in_ok-days.ensures
 
-pub returns-in-err-days : goal.returns-in-err-days
-returns-in-err-days g c =
-    let p = err_from_is_err_and c.from-residual.result c.from-residual.ensures.1 in
-    rw (p.1, p.2) (told_fault (g.R.Record.meaning c.args.source.now c.args.point) c.args.hour _ _ c.in-err-days.ensures)
+pub returns-in_err-days : goal.returns-in_err-days
+returns-in_err-days g c =
+    let p = err_from_is_err_and c.from_residual.result c.from_residual.ensures.1 in
+    rw (p.1, p.2) (told_fault (g.R.Record.meaning c.args.source.now c.args.point) c.args.hour _ _ c.in_err-days.ensures)
 
 pub returns : goal.returns
 returns g c =

@@ -16,8 +16,8 @@ hundredfold rate l h = omega (arith, ints)
 widened : (tenths : ℕ) → tenths ≤ 100000 → to_z w64 tenths ≡ pos tenths
 widened tenths m = omega (arith, ints)
 
-pub overflow-mul-result-2 : goal.overflow-mul-result-2
-overflow-mul-result-2 c =
+pub overflow_mul-result-2 : goal.overflow_mul-result-2
+overflow_mul-result-2 c =
     product_fits _ _ (pos 100 *ℤ c.args.rate) (pos c.args.tenths) (hundredfold c.args.rate c.requires.low c.requires.high) (widened c.args.tenths c.requires.most)
     (small c.args.rate c.args.tenths c.requires.low c.requires.high c.requires.most)
 

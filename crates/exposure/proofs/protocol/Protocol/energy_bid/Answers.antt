@@ -4,12 +4,12 @@ use Rattle.exposure.specs.Protocol.{bid_worth}
 use Rattle.exposure.proofs.Valuing.{back, stops, goes}
 use Rattle.exposure.proofs.protocol.Protocol.energy_bid.Goals as goal
 
-pub returns-in-err-d : goal.returns-in-err-d
+pub returns-in_err-d : goal.returns-in_err-d
 unfolding bid_worth
-returns-in-err-d g c =
-    let p = err_from_is_err_and c.from-residual.result c.from-residual.ensures.1 in
-    rw (p.1, p.2) (stops _ _ _ c.in-err-d.ensures)
+returns-in_err-d g c =
+    let p = err_from_is_err_and c.from_residual.result c.from_residual.ensures.1 in
+    rw (p.1, p.2) (stops _ _ _ c.in_err-d.ensures)
 
 pub returns : goal.returns
 unfolding bid_worth
-returns g c = goes c.in-ok-d.d.cents _ _ _ c.in-ok-d.ensures (ap Ok (back c.energy_bid.result c.energy_bid.ensures.size ∙ c.energy_bid.ensures.value))
+returns g c = goes c.in_ok-d.d.cents _ _ _ c.in_ok-d.ensures (ap Ok (back c.energy_bid.result c.energy_bid.ensures.size ∙ c.energy_bid.ensures.value))

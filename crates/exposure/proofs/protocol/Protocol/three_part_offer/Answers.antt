@@ -4,21 +4,21 @@ use Rattle.exposure.specs.Protocol.{three_part_worth}
 use Rattle.exposure.proofs.Valuing.{back, stops, goes}
 use Rattle.exposure.proofs.protocol.Protocol.three_part_offer.Goals as goal
 
-pub returns-in-err-y : goal.returns-in-err-y
+pub returns-in_err-y : goal.returns-in_err-y
 unfolding three_part_worth
-returns-in-err-y g c =
-    let p = err_from_is_err_and c.from-residual.result c.from-residual.ensures.1 in
-    rw (p.1, p.2) (stops _ _ _ c.in-err-y.ensures)
+returns-in_err-y g c =
+    let p = err_from_is_err_and c.from_residual.result c.from_residual.ensures.1 in
+    rw (p.1, p.2) (stops _ _ _ c.in_err-y.ensures)
 
-pub returns-in-err-z : goal.returns-in-err-z
+pub returns-in_err-z : goal.returns-in_err-z
 unfolding three_part_worth
-returns-in-err-z g c =
-    let p = err_from_is_err_and c.from-residual-in-err-z.result c.from-residual-in-err-z.ensures.1 in
-    rw (p.1, p.2) (goes c.in-ok-y.y.cents _ _ _ c.in-ok-y.ensures (stops _ _ _ c.in-err-z.ensures))
+returns-in_err-z g c =
+    let p = err_from_is_err_and c.from_residual-in_err-z.result c.from_residual-in_err-z.ensures.1 in
+    rw (p.1, p.2) (goes c.in_ok-y.y.cents _ _ _ c.in_ok-y.ensures (stops _ _ _ c.in_err-z.ensures))
 
 pub returns : goal.returns
 unfolding three_part_worth
 returns g c =
-    goes c.in-ok-y.y.cents _ _ _ c.in-ok-y.ensures
-    (goes c.in-ok-z.z.cents _ _ _ c.in-ok-z.ensures
+    goes c.in_ok-y.y.cents _ _ _ c.in_ok-y.ensures
+    (goes c.in_ok-z.z.cents _ _ _ c.in_ok-z.ensures
     (ap Ok (back c.three_part_offer.result c.three_part_offer.ensures.size ∙ c.three_part_offer.ensures.value)))
