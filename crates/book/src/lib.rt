@@ -1,4 +1,5 @@
 //! The credit book: what stands, its exposure, and the rights that are free.
+#![tactic(auto)]
 
 mod admits;
 pub mod answer;

@@ -29,9 +29,9 @@ impl Book {
 
     // The answer to a submission: nothing is changed yet.
     fn weigh<R: Rule>(&self, rule: &mut R, submission: &Submission) -> Result<Accepted, Refusal>
-        ensures answer { result ≡ submit_answer (view self.now) submission.now (worth rule.old) }
+        ensures answer { result ≡ submit_answer (view self.now) submission.now (R.worth rule.old) }
         ensures fits { IfOk result (λ a. (vec_len self.now.standing.rows < 500) × (grains a.exposure ≡ true)) }
-        ensures kept { worth rule.new ≡ worth rule.old }
+        ensures kept { R.worth rule.new ≡ R.worth rule.old }
     {
         if let Some(_) = self.standing.place(submission.number()) {
             return Err(Refusal::NumberStands);
@@ -60,9 +60,9 @@ impl Book {
         rule: &mut R,
         submission: Submission,
     ) -> Result<Accepted, Refusal>
-        ensures answer { result ≡ submit_answer (view self.old) submission (worth rule.old) }
-        ensures after { view self.new ≡ after (view self.old) (submitted submission (worth rule.old) result) }
-        ensures kept { worth rule.new ≡ worth rule.old }
+        ensures answer { result ≡ submit_answer (view self.old) submission (R.worth rule.old) }
+        ensures after { view self.new ≡ after (view self.old) (submitted submission (R.worth rule.old) result) }
+        ensures kept { R.worth rule.new ≡ R.worth rule.old }
     {
         let accepted = self.weigh(rule, &submission)?;
         self.standing.add(Row {

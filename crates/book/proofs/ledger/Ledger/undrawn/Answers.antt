@@ -11,8 +11,8 @@ loop-i-preserved c =
     let l : c.loop-i.i < length rows = omega arith in
     let m = drawn_more c.args.path rows c.loop-i.i c.index.result.now l c.index.ensures in
     let i = c.loop-i.invariant in
-    let d = c.drawn-by.ensures in
-    let s = c.saturating-sub-left.ensures in
+    let d = c.drawn_by.ensures in
+    let s = c.saturating_sub-left.ensures in
     omega arith
 
 pub returns : goal.returns

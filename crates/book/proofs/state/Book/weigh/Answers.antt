@@ -19,54 +19,54 @@ returns-in-Some g c =
       kept = refl;
     }
 
-pub overflow-add-total : goal.overflow-add-total
-overflow-add-total g c =
-    let bx = within_ok _ c.in-ok-exposure.exposure c.in-ok-exposure.ensures.answer (g.R.Rule.within c.args.rule.now c.args.submission.now c.cover-cover.result) in
-    (reads c.args.self.now c.in-ok-exposure.exposure bx).raise_fits
+pub overflow_add-total : goal.overflow_add-total
+overflow_add-total g c =
+    let bx = within_ok _ c.in_ok-exposure.exposure c.in_ok-exposure.ensures.answer (g.R.Rule.within c.args.rule.now c.args.submission.now c.cover-cover.result) in
+    (reads c.args.self.now c.in_ok-exposure.exposure bx).raise_fits
 
 pub passes-requires : goal.passes-requires
 passes-requires g c =
-    let bx = within_ok _ c.in-ok-exposure.exposure c.in-ok-exposure.ensures.answer (g.R.Rule.within c.args.rule.now c.args.submission.now c.cover-cover.result) in
-    let r = reads c.args.self.now c.in-ok-exposure.exposure bx in
+    let bx = within_ok _ c.in_ok-exposure.exposure c.in_ok-exposure.ensures.answer (g.R.Rule.within c.args.rule.now c.args.submission.now c.cover-cover.result) in
+    let r = reads c.args.self.now c.in_ok-exposure.exposure bx in
     record { total = r.total_wide; change = r.change_wide }
 
-pub overflow-sub-result : goal.overflow-sub-result
-overflow-sub-result g c =
-    let bx = within_ok _ c.in-ok-exposure.exposure c.in-ok-exposure.ensures.answer (g.R.Rule.within c.args.rule.now c.args.submission.now c.cover-cover.result) in
-    (reads c.args.self.now c.in-ok-exposure.exposure bx).left_fits
+pub overflow_sub-result : goal.overflow_sub-result
+overflow_sub-result g c =
+    let bx = within_ok _ c.in_ok-exposure.exposure c.in_ok-exposure.ensures.answer (g.R.Rule.within c.args.rule.now c.args.submission.now c.cover-cover.result) in
+    (reads c.args.self.now c.in_ok-exposure.exposure bx).left_fits
 
-pub returns-then-out-of-range : goal.returns-then-out-of-range
-returns-then-out-of-range g c =
-    let x = c.in-ok-exposure.exposure in
-    let bx = within_ok _ x c.in-ok-exposure.ensures.answer (g.R.Rule.within c.args.rule.now c.args.submission.now c.cover-cover.result) in
+pub returns-then-out_of_range : goal.returns-then-out_of_range
+returns-then-out_of_range g c =
+    let x = c.in_ok-exposure.exposure in
+    let bx = within_ok _ x c.in_ok-exposure.ensures.answer (g.R.Rule.within c.args.rule.now c.args.submission.now c.cover-cover.result) in
     record {
       answer = out_of_range c.args.self.now c.args.submission.now (g.R.Rule.worth c.args.rule.now) c.number.result c.cover-cover.result x
-          c.number.ensures c.in-default.ensures (omega arith) c.cover-cover.ensures c.in-ok-exposure.ensures.answer (reads c.args.self.now x bx) (sym c.if-out-of-range.ensures);
+          c.number.ensures c.in_default.ensures (omega arith) c.cover-cover.ensures c.in_ok-exposure.ensures.answer (reads c.args.self.now x bx) (sym c.if-out_of_range.ensures);
       fits = tt;
       kept = c.value.ensures.kept;
     }
 
 pub returns-then-passes : goal.returns-then-passes
 returns-then-passes g c =
-    let x = c.in-ok-exposure.exposure in
-    let bx = within_ok _ x c.in-ok-exposure.ensures.answer (g.R.Rule.within c.args.rule.now c.args.submission.now c.cover-cover.result) in
+    let x = c.in_ok-exposure.exposure in
+    let bx = within_ok _ x c.in_ok-exposure.ensures.answer (g.R.Rule.within c.args.rule.now c.args.submission.now c.cover-cover.result) in
     record {
       answer = past_limit c.args.self.now c.args.submission.now (g.R.Rule.worth c.args.rule.now) c.number.result c.cover-cover.result x
-          c.number.ensures c.in-default.ensures (omega arith) c.cover-cover.ensures c.in-ok-exposure.ensures.answer (reads c.args.self.now x bx)
-          (sym c.if-out-of-range.ensures) (sym c.if-passes.ensures);
+          c.number.ensures c.in_default.ensures (omega arith) c.cover-cover.ensures c.in_ok-exposure.ensures.answer (reads c.args.self.now x bx)
+          (sym c.if-out_of_range.ensures) (sym c.if-passes.ensures);
       fits = tt;
       kept = c.value.ensures.kept;
     }
 
 pub returns : goal.returns
 returns g c =
-    let x = c.in-ok-exposure.exposure in
-    let bx = within_ok _ x c.in-ok-exposure.ensures.answer (g.R.Rule.within c.args.rule.now c.args.submission.now c.cover-cover.result) in
+    let x = c.in_ok-exposure.exposure in
+    let bx = within_ok _ x c.in_ok-exposure.ensures.answer (g.R.Rule.within c.args.rule.now c.args.submission.now c.cover-cover.result) in
     let r = reads c.args.self.now x bx in
     record {
       answer = within_limit c.args.self.now c.args.submission.now (g.R.Rule.worth c.args.rule.now) c.number.result c.cover-cover.result x
-          c.number.ensures c.in-default.ensures (omega arith) c.cover-cover.ensures c.in-ok-exposure.ensures.answer r
-          (sym c.if-out-of-range.ensures) (sym c.if-passes.ensures);
+          c.number.ensures c.in_default.ensures (omega arith) c.cover-cover.ensures c.in_ok-exposure.ensures.answer r
+          (sym c.if-out_of_range.ensures) (sym c.if-passes.ensures);
       fits = (omega arith, ap grains r.change_is ∙ grains_in x bx);
       kept = c.value.ensures.kept;
     }

@@ -7,8 +7,8 @@ use Rattle.book.proofs.Exposures.{bounded_at}
 use Rattle.book.proofs.Totals.{reads}
 use Rattle.book.proofs.state.Book.withdraw.Goals as goal
 
-pub overflow-sub-exposure : goal.overflow-sub-exposure
-overflow-sub-exposure c =
+pub overflow_sub-exposure : goal.overflow_sub-exposure
+overflow_sub-exposure c =
     let q = c.index-row.result.now in
     let bx = bounded_at c.args.self.now.standing.rows.items c.in-Some.i q c.in-Some.ensures.0 c.index-row.ensures c.args.self.now.standing.within in
     (reads c.args.self.now q.exposure bx).negation_fits
@@ -20,8 +20,8 @@ passes-requires c =
     let r = reads c.args.self.now q.exposure bx in
     record { total = r.total_wide; change = r.negation_wide }
 
-pub overflow-sub-result : goal.overflow-sub-result
-overflow-sub-result c =
+pub overflow_sub-result : goal.overflow_sub-result
+overflow_sub-result c =
     let q = c.index-row.result.now in
     let bx = bounded_at c.args.self.now.standing.rows.items c.in-Some.i q c.in-Some.ensures.0 c.index-row.ensures c.args.self.now.standing.within in
     (reads c.args.self.now q.exposure bx).left_fits
@@ -44,7 +44,7 @@ returns c =
     let r = reads book q.exposure bx in
     let f = c.in-Some.ensures.1 q ∙ ap Some (sym c.index-row.ensures) in
     let o = (λ i. over (sym r.limit_is i) (sym r.total_is i) (sym r.negation_is i)) ∙ sym c.if-passes.ensures in
-    let k = c.take-out.ensures ∙ sym c.in-Some.ensures.2 in
+    let k = c.take_out.ensures ∙ sym c.in-Some.ensures.2 in
     record {
       answer = ap Ok r.change_is ∙ sym (released_under (view book) c.args.number q f o);
       after = λ j. record { limit = book.limit; rights = book.rights.items; rows = k j };
