@@ -1,4 +1,5 @@
 //! Examples of submissions and of the book, each worked out by hand from the rules.
+#![tactic(auto)]
 
 #[cfg(test)]
 mod calls;
