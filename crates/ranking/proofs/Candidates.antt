@@ -1,11 +1,12 @@
 -- A candidate fits if at least k elements do not come after it and fewer than k come before it: then it
 -- is the least that has enough, and one fits wherever k is 1 to the number present.
 use Rattle.std.proofs.Common.{◌≡◌, ℕ, zero, suc, ◌<◌, ◌≤◌, Bool, true, false, not, T, leb, List, [], ◌∷◌, length, Some, None, Option, refl, inl, inr, arith, le→leb, leb→le}
-use lib.Dec.{nleb→lt}
+use Rattle.std.proofs.Math.Dec.{nleb→lt, not_T}
+use Rattle.std.proofs.Math.Facts.{T_not}
 use Rattle.ranking.specs.Order.{TotalOrder}
 use Rattle.ranking.specs.Counts.{tally, present}
 use Rattle.ranking.specs.Percentile.{on_day, Enough}
-use Rattle.ranking.proofs.Tests.{true_or_false, false_fails, not_both, by_not, no_some}
+use Rattle.ranking.proofs.Tests.{true_or_false, false_fails, no_some}
 use Rattle.ranking.proofs.Tallies.{tally_mono}
 use Rattle.ranking.proofs.Bests.{Fails, best_of}
 
@@ -21,7 +22,7 @@ reverse : {E : Type 0} {le : E → E → Bool} → TotalOrder le → TotalOrder 
 reverse o = record { compares = λ x y. o.compares y x; transitive = λ x y z a b. o.transitive z y x b a }
 
 lt_by : (a b : ℕ) → (b ≤ a → ⊥) → a < b
-lt_by a b h = elim (true_or_false (leb b a)) [ inl t ↦ absurd (h (leb→le b a t)) | inr n ↦ nleb→lt b a (by_not (leb b a) (false_fails (leb b a) n)) ]
+lt_by a b h = elim (true_or_false (leb b a)) [ inl t ↦ absurd (h (leb→le b a t)) | inr n ↦ nleb→lt b a (not_T (leb b a) (false_fails (leb b a) n)) ]
 
 module _ {E : Type 0} (le : E → E → Bool) (o : TotalOrder le) where
   -- what fits is the least that has enough: otherwise all that do not come after the lesser one come before it
@@ -30,7 +31,7 @@ module _ {E : Type 0} (le : E → E → Bool) (o : TotalOrder le) where
       elim (true_or_false (le x y)) [
         | inl t ↦ t
         | inr n ↦
-            let more = tally_mono (λ z. le z y) (under le x) xs (λ d z at u. by_not (le x z) (λ v. false_fails (le x y) n (o.transitive x z y v u))) in
+            let more = tally_mono (λ z. le z y) (under le x) xs (λ d z at u. not_T (le x z) (λ v. false_fails (le x y) n (o.transitive x z y v u))) in
             absurd (omega (arith, more, fits.few, enough))
       ]
 
@@ -38,7 +39,7 @@ module _ {E : Type 0} (le : E → E → Bool) (o : TotalOrder le) where
   pub equal_fits : (xs : List (Option E)) (k : ℕ) (x y : E) → Fits le xs k x → T (le x y) → T (le y x) → Fits le xs k y
   equal_fits xs k x y fits a b =
       let more = tally_mono (λ z. le z x) (λ z. le z y) xs (λ d z at u. o.transitive z x y u a) in
-      let less = tally_mono (under le y) (under le x) xs (λ d z at u. by_not (le x z) (λ v. not_both (le y z) (o.transitive y x z b v) u)) in
+      let less = tally_mono (under le y) (under le x) xs (λ d z at u. not_T (le x z) (λ v. T_not (le y z) (o.transitive y x z b v) u)) in
       record { enough = omega (arith, more, fits.enough); few = omega (arith, less, fits.few) }
 
   tally_false : (xs : List (Option E)) → tally (λ _. false) xs ≡ 0
@@ -58,7 +59,7 @@ module _ {E : Type 0} (le : E → E → Bool) (o : TotalOrder le) where
       elim (best_of le o (under le x) xs) [
         | inl m ↦
             let more = tally_mono (under le x) (λ z. le z m.it) xs m.best in
-            not_both (le x m.it) (least m.day m.it m.stands (le→leb _ _ (omega arith))) m.passes
+            T_not (le x m.it) (least m.day m.it m.stands (le→leb _ _ (omega arith))) m.passes
         | inr fails ↦ let z = none_counted (under le x) xs fails in omega arith
       ]
 

@@ -17,14 +17,6 @@ pub false_fails : (b : Bool) → b ≡ false → T b → ⊥
 false_fails true n t = let z : ◌≡◌ {A = ℕ} 0 1 = cc in omega arith
 false_fails false n t = t
 
-pub not_both : (b : Bool) → T b → T (not b) → ⊥
-not_both true t u = u
-not_both false t u = t
-
-pub by_not : (b : Bool) → (T b → ⊥) → T (not b)
-by_not true h = absurd (h tt)
-by_not false h = tt
-
 pub both : (a b : Bool) → T a → T b → T (a && b)
 both true b s t = t
 both false b s t = s

@@ -1,4 +1,5 @@
 //! Percentiles over any total order, and the percentile that each letter stands for.
+#![tactic(auto)]
 
 pub mod fault;
 pub mod letters;

@@ -35,8 +35,8 @@ fn share_of(p: u8, n: usize) -> usize
 // it; among equals, the earliest day's. A candidate is that one if it reaches so many and fewer
 // come before it.
 pub fn percentile<E: Ordered>(days: &[Option<E>], p: u8) -> Result<E, NoDays>
-    ensures is { result ≡ percentile_of upto days.now p }
-    ensures means { Percentile upto days.now p result }
+    ensures is { result ≡ percentile_of E.upto days.now p }
+    ensures means { Percentile E.upto days.now p result }
 {
     if p < 1 || 100 < p {
         return Err(NoDays);

@@ -92,7 +92,7 @@ returns-then-before-k g c =
       from_one = omega arith;
       to_hundred = omega arith;
       day = c.loop-d.d;
-      answers = subst P (c.share_of-k.ensures ∙ ap (share p) c.count_present-n.ensures.is) (record {
+      answers = subst P (◌∙◌ {b = share p c.count_present-n.result} c.share_of-k.ensures (ap (share p) c.count_present-n.ensures.is)) (record {
         within = c.loop-d-test.true;
         stands = here;
         enough = fits.enough;
