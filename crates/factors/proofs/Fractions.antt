@@ -1,7 +1,7 @@
 -- Ratios of equal tops and bottoms are equal, since what else they carry are proofs; so the ratio that is
 -- made of a day's figures is the one that is defined.
 use Rattle.std.proofs.Common.{◌≡◌, ℕ, zero, suc, ◌+◌, ◌<◌, ◌≤◌, true, ℤ, pos, negsuc, ◌-ℤ◌, neg_ℤ, nat_abs, ◌≤ℤ◌, ◌<ℤ◌, sym, ap, ◌∙◌, subst, add-one, arith}
-use native.Mathlib.Bridge.{le_prop}
+use Rattle.std.proofs.Math.Bridge.{le_prop}
 use Rattle.std.proofs.lemmas.Int.{ints}
 use Rattle.factors.specs.declared.ratio.Ratio.{Ratio}
 use Rattle.factors.specs.Ratios.{clipped, over_next, ratio_one, ratio_zero}

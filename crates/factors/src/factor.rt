@@ -15,7 +15,7 @@ pub const MOST_DAYS: usize = 30;
 fn gathered<D: Rated>(days: &[D]) -> [Option<Ratio>; 30]
     requires { length days.now ≤ 30 }
     ensures long { length result ≡ 30 }
-    ensures held { take (length days.now) result ≡ map rating days.now }
+    ensures held { take (length days.now) result ≡ map D.rating days.now }
 {
     let mut ratios = [None; 30];
     for d in 0..days.len() {
@@ -27,7 +27,7 @@ fn gathered<D: Rated>(days: &[D]) -> [Option<Ratio>; 30]
 
 // The percentile p of the days' ratios, in hundredths.
 fn factor<D: Rated>(days: &[D], p: u8) -> Result<u8, NoDays>
-    ensures { result ≡ factor_of rating days.now p }
+    ensures { result ≡ factor_of D.rating days.now p }
 {
     if days.len() < 1 || MOST_DAYS < days.len() {
         return Err(NoDays);

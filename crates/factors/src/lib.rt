@@ -1,4 +1,5 @@
 //! The factors that weigh exposure, from the ratios of a counter-party's days.
+#![tactic(auto)]
 
 pub mod days;
 pub mod factor;

@@ -1,7 +1,6 @@
 -- A turn puts one more day's ratio behind those so far.
 use Rattle.std.proofs.Common.{◌≡◌, ℕ, ◌+◌, ◌<◌, List, [], ◌∷◌, ◌++◌, map, length, get_or, take, sym, refl, ap, ◌∙◌, arith}
-use mathlib.Core.List.{map-append}
-use Rattle.std.proofs.lemmas.List.{take_more, take_more_set, length-set, take_all}
+use Rattle.std.proofs.lemmas.List.{map-append, take_more, take_more_set, length-set, take_all}
 use Rattle.factors.proofs.factor.gathered.Goals as goal
 
 -- what one more day adds
