@@ -1,4 +1,5 @@
 //! Cases of price records, with the expected values worked out by hand.
+#![tactic(auto)]
 
 #[cfg(test)]
 mod layers;
