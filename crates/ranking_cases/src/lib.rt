@@ -1,4 +1,5 @@
 //! Percentiles worked out by hand, at a type whose equal elements can be told apart.
+#![tactic(auto)]
 
 #[cfg(test)]
 mod letter_cases;
