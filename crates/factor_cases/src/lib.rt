@@ -1,4 +1,5 @@
 //! Factors worked out by hand.
+#![tactic(auto)]
 
 #[cfg(test)]
 mod e1_cases;
