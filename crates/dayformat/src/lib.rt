@@ -1,4 +1,5 @@
 //! The format of a day file: its bytes, read as a header and calls.
+#![tactic(auto)]
 
 mod bytes;
 pub mod call;

@@ -20,5 +20,5 @@ returns-in-76 c = record { reads = opens c.args.bytes.now 76 9 _ _ refl (search 
 pub returns-in-87 : goal.returns-in-87
 returns-in-87 c = record { reads = opens c.args.bytes.now 87 5 _ _ refl (search rules) (lit≤ tt) (search rules) (search rules); whole = tt }
 
-pub returns-in-default : goal.returns-in-default
-returns-in-default c = record { reads = no_call c.args.bytes.now (search rules) (search rules) (search rules); whole = tt }
+pub returns-in_default : goal.returns-in_default
+returns-in_default c = record { reads = no_call c.args.bytes.now (search rules) (search rules) (search rules); whole = tt }

@@ -10,6 +10,6 @@ loop-i-init c = (refl, refl)
 
 pub loop-i-preserved : goal.loop-i-preserved
 loop-i-preserved c = (
-  length-set c.loop-i.held c.loop-i.i c.read-right.result ∙ c.loop-i.invariant.0,
-  one_more (λ (i : ℕ). right_at c.args.file.now (15 + 9 * i)) c.loop-i.held c.loop-i.i c.read-right.result (omega arith) c.loop-i.invariant.1 (search rules),
+  length-set c.loop-i.held c.loop-i.i c.read_right.result ∙ c.loop-i.invariant.0,
+  one_more (λ (i : ℕ). right_at c.args.file.now (15 + 9 * i)) c.loop-i.held c.loop-i.i c.read_right.result (omega arith) c.loop-i.invariant.1 (search rules),
 )
