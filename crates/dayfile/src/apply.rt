@@ -53,9 +53,9 @@ fn submission(
 // Makes a call, and returns its number.
 pub(crate) fn apply<R: Rule>(book: &mut Book, rule: &mut R, call: Call) -> u8
     requires { Whole call }
-    ensures number { result ≡ told (view book.old) (asked (worth rule.old) (means call.entry)) }
-    ensures after { view book.new ≡ left (view book.old) (asked (worth rule.old) (means call.entry)) }
-    ensures kept { worth rule.new ≡ worth rule.old }
+    ensures number { result ≡ told (view book.old) (asked (R.worth rule.old) (means call.entry)) }
+    ensures after { view book.new ≡ left (view book.old) (asked (R.worth rule.old) (means call.entry)) }
+    ensures kept { R.worth rule.new ≡ R.worth rule.old }
     ensures short { result < 100 }
 {
     match call {

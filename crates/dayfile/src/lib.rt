@@ -1,4 +1,5 @@
 //! A day file run to its lines: each call, the number it returns, and the exposure after it.
+#![tactic(auto)]
 
 mod apply;
 mod digits;

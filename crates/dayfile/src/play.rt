@@ -26,7 +26,7 @@ pub(crate) fn play<R: Rule>(
     requires short { size ≤ 65536 }
     requires inside { length calls.now ≤ size }
     ensures fits { result ≤ 49152 }
-    ensures filled { Filled (text (worth rule.old) (view book.old) (script 2000 size calls.now)) answer.old result answer.new }
+    ensures filled { Filled (text (R.worth rule.old) (view book.old) (script 2000 size calls.now)) answer.old result answer.new }
 {
     let mut rest = calls;
     let mut at = 0;

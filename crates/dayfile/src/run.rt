@@ -35,7 +35,7 @@ fn open_and_play<R: Rule>(
     requires short { length file.now ≤ 65536 }
     requires inside { header.length ≤ length file.now }
     ensures fits { result ≤ 49152 }
-    ensures filled { Filled (under file.now (head_of file.now header) (worth rule.old)) answer.old result answer.new }
+    ensures filled { Filled (under file.now (head_of file.now header) (R.worth rule.old)) answer.old result answer.new }
 {
     let Header {
         limit,

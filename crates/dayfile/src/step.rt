@@ -21,10 +21,10 @@ pub(crate) fn step<R: Rule>(
 ) -> usize
     requires whole { Whole call }
     requires room { at + 24 ≤ length answer.old }
-    ensures line { Wrote answer.old at (call_line (worth rule.old) (view book.old) (means call.entry)) result answer.new }
+    ensures line { Wrote answer.old at (call_line (R.worth rule.old) (view book.old) (means call.entry)) result answer.new }
     ensures short { result ≤ at + 24 }
-    ensures after { view book.new ≡ left (view book.old) (asked (worth rule.old) (means call.entry)) }
-    ensures kept { worth rule.new ≡ worth rule.old }
+    ensures after { view book.new ≡ left (view book.old) (asked (R.worth rule.old) (means call.entry)) }
+    ensures kept { R.worth rule.new ≡ R.worth rule.old }
 {
     let number = apply(book, rule, call);
     let exposure = book.exposure();

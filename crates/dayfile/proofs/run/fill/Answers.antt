@@ -9,22 +9,22 @@ use Rattle.dayfile.proofs.Going.{closing_short}
 use Rattle.dayfile.proofs.Opening.{filled_first, filled_as, lines_none, lines_valued}
 use Rattle.dayfile.proofs.run.fill.Goals as goal
 
-pub put-closing-requires : goal.put-closing-requires
-put-closing-requires c = omega (arith, closing_short 0 (omega arith))
+pub put_closing-requires : goal.put_closing-requires
+put_closing-requires c = omega (arith, closing_short 0 (omega arith))
 
-pub returns-in-default : goal.returns-in-default
-returns-in-default c = record {
-  fits = let p = c.put-closing.ensures.place in omega (arith, closing_short 0 (omega arith));
-  filled = filled_as (lines_none c.args.file.now (sym c.in-default.ensures.value)) (filled_first c.put-closing.ensures);
+pub returns-in_default : goal.returns-in_default
+returns-in_default c = record {
+  fits = let p = c.put_closing.ensures.place in omega (arith, closing_short 0 (omega arith));
+  filled = filled_as (lines_none c.args.file.now (sym c.in_default.ensures.value)) (filled_first c.put_closing.ensures);
 }
 
-pub play-by-rates-requires : goal.play-by-rates-requires
-play-by-rates-requires c =
+pub play_by_rates-requires : goal.play_by_rates-requires
+play_by_rates-requires c =
     let inside = header_inside c.args.file.now (head_of c.args.file.now c.in-Some.header) (sym c.in-Some.ensures.value) in
     record { room = c.requires; short = inside.1; inside = inside.0 }
 
-pub play-by-pages-requires : goal.play-by-pages-requires
-play-by-pages-requires c =
+pub play_by_pages-requires : goal.play_by_pages-requires
+play_by_pages-requires c =
     let inside = header_inside c.args.file.now (head_of c.args.file.now c.in-Some.header) (sym c.in-Some.ensures.value) in
     record { room = c.requires; short = inside.1; inside = inside.0 }
 
@@ -33,8 +33,8 @@ returns-in-Rates c =
     let file = c.args.file.now in
     let h = head_of file c.in-Some.header in
     record {
-      fits = c.play-by-rates.ensures.fits;
-      filled = filled_as (sym (ap (λ (v : Valuation). by_valued file h (meant file v)) c.in-Rates.is) ∙ lines_valued file h (sym c.in-Some.ensures.value)) c.play-by-rates.ensures.filled;
+      fits = c.play_by_rates.ensures.fits;
+      filled = filled_as (sym (ap (λ (v : Valuation). by_valued file h (meant file v)) c.in-Rates.is) ∙ lines_valued file h (sym c.in-Some.ensures.value)) c.play_by_rates.ensures.filled;
     }
 
 -- a part between two places, as a slice takes it
@@ -53,6 +53,6 @@ returns-in-Protocol c =
     let made = factors_of (get_or f 0 0) (get_or f 1 0) (get_or f 2 0) in
     let parts : by_made_factors file h (take (pages + size - pages) (drop pages file)) (take (pages + size + size - (pages + size)) (drop (pages + size) file)) made ≡ by_made_factors file h (take size (drop pages file)) (take size (drop (pages + size) file)) made = λ i. by_made_factors file h (ahead i) (real i) made in
     record {
-      fits = c.play-by-pages.ensures.fits;
-      filled = filled_as (parts ∙ sym (ap (λ (v : Valuation). by_valued file h (meant file v)) c.in-Protocol.is) ∙ lines_valued file h (sym c.in-Some.ensures.value)) c.play-by-pages.ensures.filled;
+      fits = c.play_by_pages.ensures.fits;
+      filled = filled_as (parts ∙ sym (ap (λ (v : Valuation). by_valued file h (meant file v)) c.in-Protocol.is) ∙ lines_valued file h (sym c.in-Some.ensures.value)) c.play_by_pages.ensures.filled;
     }

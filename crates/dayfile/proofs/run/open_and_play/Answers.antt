@@ -16,8 +16,8 @@ limit_is l fits = to_z-of_z fits
 all_of : (n : ℕ) (rights : List Right) → take (n - 0) rights ≡ take n rights
 all_of n rights = let e : n - 0 ≡ n = omega arith in ap (λ (k : ℕ). take k rights) e
 
-pub slice-bounds-open-end : goal.slice-bounds-open-end
-slice-bounds-open-end g c = let few = c.args.header.few in search rules
+pub slice_bounds-open-end : goal.slice_bounds-open-end
+slice_bounds-open-end g c = let few = c.args.header.few in search rules
 
 pub returns-in-Ok : goal.returns-in-Ok
 returns-in-Ok g c =
@@ -33,8 +33,8 @@ returns-in-Ok g c =
       filled = filled_as (under_opened file (head_of file h) (g.R.Rule.worth c.args.rule.now) _ _ opens begins (take_rest file h.length)) c.play.ensures.filled;
     }
 
-pub put-closing-requires : goal.put-closing-requires
-put-closing-requires g c = omega (arith, closing_short 0 (omega arith))
+pub put_closing-requires : goal.put_closing-requires
+put_closing-requires g c = omega (arith, closing_short 0 (omega arith))
 
 pub returns : goal.returns
 returns g c =
@@ -45,6 +45,6 @@ returns g c =
     let u = c.in-Err.field-0 in
     let fails : opening_fault h.limit (take h.count h.rights) ≡ Some u.refusal = (λ i. opening_fault (sym el i) (sym er i)) ∙ c.in-Err.ensures.0 in
     record {
-      fits = let p = c.put-closing.ensures.place in omega (arith, closing_short 0 (omega arith));
-      filled = filled_as (under_refused file (head_of file h) (g.R.Rule.worth c.args.rule.now) u.refusal fails) (filled_first c.put-closing.ensures);
+      fits = let p = c.put_closing.ensures.place in omega (arith, closing_short 0 (omega arith));
+      filled = filled_as (under_refused file (head_of file h) (g.R.Rule.worth c.args.rule.now) u.refusal fails) (filled_first c.put_closing.ensures);
     }

@@ -11,13 +11,13 @@ use Rattle.dayfile.proofs.Going.{closing_short}
 use Rattle.dayfile.proofs.Opening.{filled_first, filled_as}
 use Rattle.dayfile.proofs.run.play_by_pages.Goals as goal
 
-pub put-closing-requires : goal.put-closing-requires
-put-closing-requires c = omega (arith, closing_short 0 (omega arith))
+pub put_closing-requires : goal.put_closing-requires
+put_closing-requires c = omega (arith, closing_short 0 (omega arith))
 
-pub returns-in-default : goal.returns-in-default
-returns-in-default c = record {
-  fits = let p = c.put-closing.ensures.place in omega (arith, closing_short 0 (omega arith));
-  filled = filled_as (ap (by_made_factors c.args.file.now (head_of c.args.file.now c.args.header) c.args.ahead.now c.args.real.now) c.in-default.ensures) (filled_first c.put-closing.ensures);
+pub returns-in_default : goal.returns-in_default
+returns-in_default c = record {
+  fits = let p = c.put_closing.ensures.place in omega (arith, closing_short 0 (omega arith));
+  filled = filled_as (ap (by_made_factors c.args.file.now (head_of c.args.file.now c.args.header) c.args.ahead.now c.args.real.now) c.in_default.ensures) (filled_first c.put_closing.ensures);
 }
 
 -- the rule over two pages, by what they hold
@@ -29,8 +29,8 @@ pub returns : goal.returns
 returns c =
     let file = c.args.file.now in
     let h = head_of file c.args.header in
-    let m = meaning_is c.in-Ok.factors _ DayAhead _ RealTime _ c.args.ahead.now _ c.args.real.now c.new-day-ahead.ensures.label c.new-real-time.ensures.label c.new-day-ahead.ensures.bytes c.new-real-time.ensures.bytes in
+    let m = meaning_is c.in-Ok.factors _ DayAhead _ RealTime _ c.args.ahead.now _ c.args.real.now c.new-day_ahead.ensures.label c.new-real_time.ensures.label c.new-day_ahead.ensures.bytes c.new-real_time.ensures.bytes in
     record {
-      fits = c.open-and-play.ensures.fits;
-      filled = filled_as (ap (under file h) m ∙ ap (by_made_factors file h c.args.ahead.now c.args.real.now) c.in-Ok.ensures) c.open-and-play.ensures.filled;
+      fits = c.open_and_play.ensures.fits;
+      filled = filled_as (ap (under file h) m ∙ ap (by_made_factors file h c.args.ahead.now c.args.real.now) c.in-Ok.ensures) c.open_and_play.ensures.filled;
     }
