@@ -1,4 +1,6 @@
 // Reads a day file from standard input, and prints its lines.
+#![tactic(auto)]
+
 use anyhow::anyhow;
 use book::state::Room;
 use dayfile::run::{ANSWER_BYTES, run};

@@ -1,4 +1,5 @@
 //! Examples of whole day files, each worked out by hand from the rules.
+#![tactic(auto)]
 
 #[cfg(test)]
 mod files;
