@@ -1,5 +1,5 @@
 -- Cross-multiplication orders fractions: a chain of two comparisons, each multiplied by the bottom that it
--- lacks, gives the third with a factor above 0 on both sides, which goes out.
+-- lacks, gives the third with a factor above 0 on both sides, which goes out. Assumes nothing.
 use Rattle.std.specs.Prelude.{◌≡◌, ℕ, ◌*◌, ◌<◌, ◌≤◌, Bool, true, false, not, T, ◌⊎◌, nat_le}
 use Rattle.std.proofs.Common.{sym, ap, ◌∙◌, inl, inr, le_of_mul-le-mul_right, mul-le-mul_right, mul_comm, mul_assoc, arith, le→leb}
 use Rattle.std.proofs.Math.Dec.{nleb→lt}

@@ -10,6 +10,7 @@ use ranking::order::Ordered;
 impl Ordered for Ratio {
     ghost upto = { not_above };
 
+    // Products of numbers compare, and a ratio's bottom is above 0.
     ghost total = { record {
       compares = λ x y. one_way (x.top * y.bottom) (y.top * x.bottom);
       transitive = λ x y z h k. le→leb _ _ (through x.top x.bottom y.top y.bottom z.top z.bottom y.proper (leb→le _ _ h) (leb→le _ _ k));

@@ -10,6 +10,7 @@ pub trait Ordered: Copy {
     fn not_after(&self, other: &Self) -> bool
         ensures { result ≡ upto self.now other.now };
 
+    // A law: each make proves it.
     ghost total: { TotalOrder upto };
 }
 
