@@ -1,7 +1,7 @@
 -- Each row lies within 10^14 grains of 0, and so a sum of n rows within n times that.
 use Rattle.std.proofs.Common.{◌≡◌, ℕ, zero, suc, ◌*◌, ◌<◌, ◌≤◌, Bool, true, ◌&&◌, List, [], ◌∷◌, ◌++◌, length, get_or, ℤ, pos, negsuc, ◌+ℤ◌, ◌-ℤ◌, neg_ℤ, ◌≤ℤ◌, sym, refl, ap, ◌∙◌, subst, arith}
-use lib.IntN.{+ℤ_assoc, +ℤ_comm}
-use lib.Signed.{le_z, mag, ≤ℤ_refl}
+use Rattle.std.proofs.Math.IntN.{+ℤ_assoc, +ℤ_comm}
+use Rattle.std.specs.Int.Signed.{le_z, mag, ≤ℤ_refl}
 use Rattle.std.proofs.lemmas.Int.{ints}
 use Rattle.std.specs.List.{remove}
 use Rattle.market.specs.Facts.{left_of, right_of}

@@ -1,6 +1,6 @@
 -- How a submission that is new, in a book with room, is answered once the rule has valued it.
 use Rattle.std.proofs.Common.{◌≡◌, ℕ, ◌<◌, true, false, length, ℤ, ◌+ℤ◌, ◌-ℤ◌, None, Ok, Err, vec_items, sym, ap, ◌∙◌, w64, to_z, of_z}
-use borrow.Author.Tests.{lt-leb}
+use Rattle.std.proofs.lemmas.Bool.{lt-leb}
 use Rattle.market.specs.declared.submission.Submission.{Submission}
 use Rattle.book.specs.declared.refusal.Refusal.TheVariants as refusal
 use Rattle.book.specs.declared.state.Book.{Book}

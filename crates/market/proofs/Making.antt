@@ -1,9 +1,10 @@
 -- What the tests of a making call find is what its definition says. The proofs that a curve and a
 -- submission carry are of propositions, so that two such values with equal figures are equal.
 use Rattle.std.proofs.Common.{◌≡◌, ℕ, ◌≤◌, Bool, true, false, List, length, take, Some, None, Ok, Err, Option, Result, sym, refl, ap, ◌∙◌, subst, arith}
-use mathlib.Core.Bool.{Bool-set}
-use native.Mathlib.Bridge.{le_prop}
-use borrow.Author.Tests.{both_ways}
+use Rattle.std.specs.Option.{ok_or}
+use Rattle.std.proofs.Math.Bool.{Bool-set}
+use Rattle.std.proofs.Math.Bridge.{le_prop}
+use Rattle.std.proofs.lemmas.Bool.{both_ways}
 use Rattle.market.specs.declared.step.Step.{Step}
 use Rattle.market.specs.declared.step.Side.{Side}
 use Rattle.market.specs.declared.curve.Curve.{Curve}
@@ -63,6 +64,15 @@ module _ (side : Side) (xs : List Step) where
   pub curve_unfit : (f : Refusal) → Err f ≡ curve_of side xs → (lawful side xs ≡ false) × (f ≡ CurveUnfit)
   unfolding curve_of
   curve_unfit f e = curve_by_err (lawful side xs) refl f e
+
+-- what reading a kind answers says whether the figures name one
+pub kind_read : (o : Option Kind) (k : Kind) → Ok k ≡ ok_or o KindUnfit → o ≡ Some k
+kind_read None k e = let z : ◌≡◌ {A = ℕ} 0 1 = cc in absurd (omega arith)
+kind_read (Some x) k e = let q : k ≡ x = cc in ap Some (sym q)
+
+pub kind_unread : (o : Option Kind) (g : Refusal) → Err g ≡ ok_or o KindUnfit → (o ≡ None) × (g ≡ KindUnfit)
+kind_unread None g e = (refl, cc)
+kind_unread (Some x) g e = let z : ◌≡◌ {A = ℕ} 0 1 = cc in absurd (omega arith)
 
 module _ (f : Figures) (xs : List Step) where
   abbrev Named : Type 0

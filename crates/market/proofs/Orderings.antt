@@ -1,6 +1,6 @@
 -- A lawful curve is in order: its quantities rise from 0, and each step is in range.
 use Rattle.std.proofs.Common.{◌≡◌, ℕ, zero, suc, ◌-◌, ◌<◌, ◌≤◌, true, ◌&&◌, leb, List, [], ◌∷◌, length, get_or, pos, negsuc, Some, None, Option, arith, ltb-true, leb-true}
-use lib.Signed.{le_z}
+use Rattle.std.specs.Int.Signed.{le_z}
 use Rattle.std.proofs.lemmas.Int.{ints}
 use Rattle.market.specs.declared.step.Step.{Step}
 use Rattle.market.specs.declared.curve.Curve.{Curve}

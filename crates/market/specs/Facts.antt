@@ -1,6 +1,6 @@
 -- Facts by which a curve and a submission carry the proof that they keep their rules. Assumes nothing.
 use Rattle.std.specs.Prelude.{◌≡◌, ◌≤◌, Bool, true, false, ◌&&◌, List, length, nat_le, refl}
-use borrow.Author.Tests.{leb-true, clash}
+use Rattle.std.proofs.lemmas.Bool.{leb-true, both_ways}
 use Rattle.market.specs.declared.step.Step.{Step}
 use Rattle.market.specs.declared.step.Side.{Side}
 use Rattle.market.specs.declared.kind.Kind.{Kind}
@@ -14,7 +14,7 @@ left_of false b e = e
 
 pub right_of : (a b : Bool) → (a && b) ≡ true → b ≡ true
 right_of true b e = e
-right_of false b e = absurd (clash e)
+right_of false b e = absurd (both_ways false refl e)
 
 pub lawful_short : (side : Side) (xs : List Step) → lawful side xs ≡ true → length xs ≤ 10
 lawful_short side xs e = leb-true (length xs) 10 (right_of (nat_le 1 (length xs)) _ (left_of (nat_le 1 (length xs) && nat_le (length xs) 10) _ e))

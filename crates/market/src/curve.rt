@@ -4,7 +4,8 @@ ghost use Rattle.market.specs.Curves.{lawful};
 
 use crate::step::{Side, Step};
 
-// The first `count` places hold the steps; the others are blank.
+// The first `count` places hold the steps; the others are blank. Ten places and a count, and no vector: a
+// curve is copied into each row of a book, and no row may need memory.
 #[derive(Clone, Copy)]
 pub struct Curve {
     pub(crate) side: Side,

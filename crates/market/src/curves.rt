@@ -6,15 +6,12 @@ ghost use Rattle.market.specs.Making.{padded, curve_of};
 use crate::curve::Curve;
 use crate::refusal::Refusal;
 use crate::step::{Side, Step};
-use crate::units::{MOST_PRICE, MOST_QUANTITY, MOST_STEPS};
+use crate::units::{MOST_QUANTITY, MOST_STEPS, price_fits};
 
 fn step_fits(step: Step) -> bool
     ensures { result ≡ step_fits step }
 {
-    1 <= step.quantity
-        && step.quantity <= MOST_QUANTITY
-        && -MOST_PRICE <= step.price
-        && step.price <= MOST_PRICE
+    (1..=MOST_QUANTITY).contains(&step.quantity) && price_fits(step.price)
 }
 
 fn goes_on(side: Side, last: Option<Step>, next: Step) -> bool
@@ -48,13 +45,8 @@ fn packed(steps: &[Step]) -> [Step; 10]
     requires { length steps.now ≤ 10 }
     ensures { result ≡ padded steps.now }
 {
-    let mut held = [Step {
-        quantity: 0,
-        price: 0,
-    }; 10];
-    for (i, step) in steps.iter().enumerate() {
-        held[i] = *step;
-    }
+    let mut held = [Step::default(); 10];
+    held[..steps.len()].copy_from_slice(steps);
     held
 }
 
@@ -72,7 +64,8 @@ impl Curve {
         })
     }
 
-    // A curve to buy, of exactly these steps.
+    // A curve to buy, of exactly these steps. It and `offer` are `make` by name: a side as an argument would
+    // be no plainer where a curve is made.
     pub fn bid(steps: &[Step]) -> Result<Curve, Refusal>
         ensures { result ≡ curve_of Side.Bid steps.now }
     {

@@ -1,7 +1,8 @@
 // What a submission asks for, and its figures before they are tested.
 use crate::units::{Hour, Point, Qse};
 
-// A claim is 1 where the bid draws on the counter-party's rights, else 0.
+// A claim is 1 where the bid draws on the counter-party's rights, else 0. It is a plain number by a rule of the
+// project: a kind holds its points and its claim as files have them.
 #[derive(Clone, Copy, PartialEq, Eq, Debug)]
 pub enum Kind {
     EnergyBid {
@@ -20,7 +21,8 @@ pub enum Kind {
     },
 }
 
-// The figures of a submission as they come. The source is the point of a kind that has one point.
+// The figures of a submission as they come. The source is the point of a kind that has one point. Kind and claim
+// are the bytes that came, so that an unfit one can be told and is refused by its number.
 #[derive(Clone, Copy, PartialEq, Eq, Debug)]
 pub struct Figures {
     pub number: u32,

@@ -2,27 +2,23 @@
 ghost use Rattle.std.specs.Prelude.{◌≡◌};
 ghost use Rattle.market.specs.Numbers.{number_of};
 
+// Each has the number that a call returns for it.
 #[derive(Clone, Copy, PartialEq, Eq, Debug)]
 pub enum Refusal {
     // A number, a QSE or an hour is unfit.
-    FiguresUnfit,
+    FiguresUnfit = 11,
     // A kind, its points, its claim or its count of steps is unfit.
-    KindUnfit,
+    KindUnfit = 12,
     // A curve breaks a rule, or a step is out of range.
-    CurveUnfit,
+    CurveUnfit = 13,
     // A price, a rate or a factor is out of range.
-    OutOfRange,
+    OutOfRange = 14,
 }
 
 impl Refusal {
     pub fn number(self) -> u8
         ensures { result ≡ number_of self }
     {
-        match self {
-            Refusal::FiguresUnfit => 11,
-            Refusal::KindUnfit => 12,
-            Refusal::CurveUnfit => 13,
-            Refusal::OutOfRange => 14,
-        }
+        self as u8
     }
 }

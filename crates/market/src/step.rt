@@ -1,8 +1,8 @@
 // A step of a curve, and the two sides of the market.
 use crate::units::{Price, Tenths};
 
-// A price, and the quantity reached so far.
-#[derive(Clone, Copy, PartialEq, Eq, Debug)]
+// A price, and the quantity reached so far. The default, a quantity of 0, is no step of any curve.
+#[derive(Clone, Copy, PartialEq, Eq, Debug, Default)]
 pub struct Step {
     pub quantity: Tenths,
     pub price: Price,

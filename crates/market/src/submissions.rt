@@ -1,5 +1,7 @@
 // Making a submission from raw figures and bare steps.
 ghost use Rattle.std.specs.Prelude.{◌≡◌};
+ghost use Rattle.std.specs.Option.{ok_or};
+ghost use Rattle.market.specs.declared.refusal.Refusal.TheVariants as Refusal;
 ghost use Rattle.market.specs.Submissions.{named, suits, side_of, kind_of};
 ghost use Rattle.market.specs.Making.{submission_of};
 
@@ -10,50 +12,58 @@ use crate::step::{Side, Step};
 use crate::submission::Submission;
 use crate::units::{HOURS, QSES};
 
-fn figures_fit(f: Figures) -> bool
-    ensures { result ≡ named f.number f.qse f.hour }
-{
-    1 <= f.number && 1 <= f.qse && f.qse <= QSES && 1 <= f.hour && f.hour <= HOURS
-}
-
-// The kind that the figures name, if any. One point has neither a sink nor a claim.
-fn kind_named(f: Figures) -> Option<Kind>
-    ensures { result ≡ kind_of f }
-{
-    let alone = f.sink == 0 && f.claim == 0;
-    match f.kind {
-        1 if alone => Some(Kind::EnergyBid { point: f.source }),
-        2 if alone => Some(Kind::EnergyOnlyOffer { point: f.source }),
-        3 if alone => Some(Kind::ThreePartOffer { point: f.source }),
-        4 => Some(Kind::PointToPoint {
-            source: f.source,
-            sink: f.sink,
-            claim: f.claim,
-        }),
-        _ => None,
+impl Figures {
+    fn fit(self) -> bool
+        ensures { result ≡ named self.number self.qse self.hour }
+    {
+        1 <= self.number && (1..=QSES).contains(&self.qse) && (1..=HOURS).contains(&self.hour)
     }
 }
 
-// Whether a kind may have such a path, such a claim and so many steps.
-fn kind_suits(kind: Kind, count: usize) -> bool
-    ensures { result ≡ suits kind count }
-{
-    match kind {
-        Kind::PointToPoint {
-            source,
-            sink,
-            claim,
-        } => source != sink && claim <= 1 && count == 1,
-        _ => true,
+// The kind that figures name, if any. One point has neither a sink nor a claim.
+impl TryFrom<Figures> for Kind {
+    type Error = Refusal;
+
+    ghost try_from_gives = { λ f r. r ≡ ok_or (kind_of f) Refusal.KindUnfit };
+
+    fn try_from(f: Figures) -> Result<Kind, Refusal> {
+        let alone = f.sink == 0 && f.claim == 0;
+        match f.kind {
+            1 if alone => Ok(Kind::EnergyBid { point: f.source }),
+            2 if alone => Ok(Kind::EnergyOnlyOffer { point: f.source }),
+            3 if alone => Ok(Kind::ThreePartOffer { point: f.source }),
+            4 => Ok(Kind::PointToPoint {
+                source: f.source,
+                sink: f.sink,
+                claim: f.claim,
+            }),
+            _ => Err(Refusal::KindUnfit),
+        }
     }
 }
 
-fn side_named(kind: Kind) -> Side
-    ensures { result ≡ side_of kind }
-{
-    match kind {
-        Kind::EnergyBid { .. } | Kind::PointToPoint { .. } => Side::Bid,
-        Kind::EnergyOnlyOffer { .. } | Kind::ThreePartOffer { .. } => Side::Offer,
+impl Kind {
+    // Whether it may have such a path, such a claim and so many steps.
+    fn suits(self, count: usize) -> bool
+        ensures { result ≡ suits self count }
+    {
+        match self {
+            Kind::PointToPoint {
+                source,
+                sink,
+                claim,
+            } => source != sink && claim <= 1 && count == 1,
+            _ => true,
+        }
+    }
+
+    fn side(self) -> Side
+        ensures { result ≡ side_of self }
+    {
+        match self {
+            Kind::EnergyBid { .. } | Kind::PointToPoint { .. } => Side::Bid,
+            Kind::EnergyOnlyOffer { .. } | Kind::ThreePartOffer { .. } => Side::Offer,
+        }
     }
 }
 
@@ -61,16 +71,14 @@ impl Submission {
     pub fn make(figures: Figures, steps: &[Step]) -> Result<Submission, Refusal>
         ensures { result ≡ submission_of figures steps.now }
     {
-        if !figures_fit(figures) {
+        if !figures.fit() {
             return Err(Refusal::FiguresUnfit);
         }
-        let Some(kind) = kind_named(figures) else {
-            return Err(Refusal::KindUnfit);
-        };
-        if !kind_suits(kind, steps.len()) {
+        let kind = Kind::try_from(figures)?;
+        if !kind.suits(steps.len()) {
             return Err(Refusal::KindUnfit);
         }
-        let curve = Curve::make(side_named(kind), steps)?;
+        let curve = Curve::make(kind.side(), steps)?;
         Ok(Submission {
             number: figures.number,
             qse: figures.qse,

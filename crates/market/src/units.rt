@@ -1,4 +1,6 @@
 // The units of the market, and the ranges of its figures.
+ghost use Rattle.std.specs.Prelude.{◌≡◌};
+ghost use Rattle.market.specs.Units.{price_fits};
 
 // Cents per MWh.
 pub type Price = i32;
@@ -24,3 +26,10 @@ pub const HOURS: Hour = 24;
 pub const QSES: Qse = 8;
 
 pub const MOST_STEPS: usize = 10;
+
+// Whether a price, of a step, a record or a rate, is within its range.
+pub fn price_fits(price: Price) -> bool
+    ensures { result ≡ price_fits price }
+{
+    (-MOST_PRICE..=MOST_PRICE).contains(&price)
+}

@@ -1,8 +1,8 @@
 -- What the test of a flat record's price finds is what its definition says. The proof that the record
 -- carries is of a proposition, so that two flat records of one price are equal.
 use Rattle.std.proofs.Common.{◌≡◌, Bool, true, false, ℤ, Ok, Err, refl, ap, ◌∙◌}
-use mathlib.Core.Bool.{Bool-set}
-use borrow.Author.Tests.{both_ways}
+use Rattle.std.proofs.Math.Bool.{Bool-set}
+use Rattle.std.proofs.lemmas.Bool.{both_ways}
 use Rattle.market.specs.declared.refusal.Refusal.TheVariants.{OutOfRange}
 use Rattle.market.specs.Units.{price_fits}
 use Rattle.prices.specs.declared.flat.Flat.{Flat}

@@ -1,5 +1,5 @@
 use Rattle.std.proofs.Common.{◌≤◌, ℤ, sym, ◌∙◌, subst, w64, SFits, rules}
-use lib.Signed.{mag}
+use Rattle.std.specs.Int.Signed.{mag}
 use Rattle.std.proofs.lemmas.Int.{to_z-of_z}
 use Rattle.book.specs.Sums.{sum}
 use Rattle.book.proofs.Exposures.{mag_within}

@@ -1,5 +1,5 @@
 use Rattle.std.proofs.Common.{◌-◌, List, length, take, replicate, sym, ap, ◌∙◌}
-use lib.Seq.{take-append_seam}
+use Rattle.std.proofs.Math.Seq.{take-append_seam}
 use Rattle.market.specs.declared.step.Step.{Step}
 use Rattle.market.specs.Curves.{lawful}
 use Rattle.market.specs.Facts.{lawful_short}
