@@ -1,6 +1,9 @@
 // A congestion right that expires with the operating day.
 use crate::units::{Hour, Point, Tenths};
 
+// The most rights that a book holds, and a day file states.
+pub const MOST_RIGHTS: usize = 200;
+
 // A path from source to sink at one hour.
 #[derive(Clone, Copy, PartialEq, Eq, Debug)]
 pub struct PathHour {

@@ -8,12 +8,10 @@ use market::units::Price;
 
 // Nothing where either is nothing, or where the difference is out of range.
 pub(crate) fn difference(first: Option<Price>, second: Option<Price>) -> Option<Price>
-    requires { (Within first) × (Within second) }
+    requires first { Within first }
+    requires second { Within second }
     ensures { result ≡ less first second }
 {
-    let (Some(a), Some(b)) = (first, second) else {
-        return None;
-    };
-    let value = a - b;
-    if value_fits(value) { Some(value) } else { None }
+    let value = first? - second?;
+    value_fits(value).then_some(value)
 }

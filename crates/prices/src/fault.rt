@@ -4,11 +4,11 @@ ghost use Rattle.prices.specs.Labels.{label_number};
 
 use market::units::{Hour, Point};
 
-// Which prices a record holds.
+// Which prices a record holds, by its number.
 #[derive(Clone, Copy, PartialEq, Eq, Debug)]
 pub enum Label {
-    DayAhead,
-    RealTime,
+    DayAhead = 1,
+    RealTime = 2,
 }
 
 // The record so labelled does not know the point, asked at the hour.
@@ -23,9 +23,6 @@ impl Label {
     pub fn number(self) -> u8
         ensures { result ≡ label_number self }
     {
-        match self {
-            Label::DayAhead => 1,
-            Label::RealTime => 2,
-        }
+        self as u8
     }
 }

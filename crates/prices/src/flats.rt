@@ -6,10 +6,10 @@ ghost use Rattle.prices.specs.Ranges.{price_within};
 
 use crate::fault::RecordFault;
 use crate::flat::Flat;
-use crate::range::{on_calendar, price_fits};
+use crate::range::on_calendar;
 use crate::record::Record;
 use market::refusal::Refusal;
-use market::units::{Hour, Point, Price};
+use market::units::{Hour, Point, Price, price_fits};
 
 impl Flat {
     // The record of exactly this price, or a refusal.
@@ -30,9 +30,6 @@ impl Record for Flat {
     ghost ranged = { λ s p h d. price_within s.price s.fits };
 
     fn ask(&self, _point: Point, hour: Hour, day: u8) -> Result<Option<Price>, RecordFault> {
-        if !on_calendar(hour, day) {
-            return Ok(None);
-        }
-        Ok(Some(self.price))
+        Ok(on_calendar(hour, day).then_some(self.price))
     }
 }

@@ -26,15 +26,7 @@ impl<R: Record> Record for Floor<R> {
     ghost ranged = { λ s p. floored_ranged (R.Record.meaning s.inner p) (R.Record.ranged s.inner p) };
 
     fn ask(&self, point: Point, hour: Hour, day: u8) -> Result<Option<Price>, RecordFault> {
-        match self.inner.ask(point, hour, day)? {
-            Some(value) => {
-                if value < 0 {
-                    Ok(Some(0))
-                } else {
-                    Ok(Some(value))
-                }
-            }
-            None => Ok(None),
-        }
+        let held = self.inner.ask(point, hour, day)?;
+        Ok(held.map(|value| value.max(0)))
     }
 }

@@ -4,9 +4,9 @@ ghost use Rattle.prices.specs.Pages.{points_in, place_of, cell_at, page_entry};
 ghost use Rattle.prices.specs.Ranges.{page_ranged};
 
 use crate::fault::{Label, RecordFault};
-use crate::range::{on_calendar, price_fits};
+use crate::range::{DAYS, on_calendar};
 use crate::record::Record;
-use market::units::{Hour, Point, Price};
+use market::units::{HOURS, Hour, Point, Price, price_fits};
 
 // The most points of a page.
 pub const POINTS: usize = 8;
@@ -15,10 +15,10 @@ pub const POINTS: usize = 8;
 pub const CELL_BYTES: usize = 4;
 
 // The cells of one hour: 30 days of 4 bytes.
-pub const HOUR_BYTES: usize = 120;
+pub const HOUR_BYTES: usize = DAYS as usize * CELL_BYTES;
 
 // The cells of one point: 24 hours of 120 bytes.
-pub const STRETCH_BYTES: usize = 2880;
+pub const STRETCH_BYTES: usize = HOURS as usize * HOUR_BYTES;
 
 // The bytes are the file's own: a cell is read when it is asked for.
 #[derive(Clone, Copy)]
@@ -40,12 +40,16 @@ impl<'a> Page<'a> {
 fn points_in(len: usize) -> usize
     ensures { result ≡ points_in len }
 {
-    let full = len / STRETCH_BYTES;
-    if full < POINTS { full } else { POINTS }
+    POINTS.min(len / STRETCH_BYTES)
 }
 
 fn place_of(point: Point, hour: Hour, day: u8) -> usize
-    requires { ((1 ≤ point) × (point ≤ 8)) × (((1 ≤ hour) × (hour ≤ 24)) × ((1 ≤ day) × (day ≤ 30))) }
+    requires first_point { 1 ≤ point }
+    requires last_point { point ≤ 8 }
+    requires first_hour { 1 ≤ hour }
+    requires last_hour { hour ≤ 24 }
+    requires first_day { 1 ≤ day }
+    requires last_day { day ≤ 30 }
     ensures { result ≡ place_of point hour day }
 {
     STRETCH_BYTES * (point as usize - 1)
@@ -53,6 +57,8 @@ fn place_of(point: Point, hour: Hour, day: u8) -> usize
         + CELL_BYTES * (day as usize - 1)
 }
 
+// The one number that this crate reads. A crate that held it and the numbers of day files would hold nothing else,
+// and be no plainer.
 fn cell_at(bytes: &[u8], at: usize) -> i32
     requires { at + 4 ≤ length bytes.now }
     ensures { result ≡ cell_at bytes.now at }
@@ -77,10 +83,6 @@ impl<'a> Record for Page<'a> {
             return Ok(None);
         }
         let cell = cell_at(self.bytes, place_of(point, hour, day));
-        if price_fits(cell) {
-            Ok(Some(cell))
-        } else {
-            Ok(None)
-        }
+        Ok(price_fits(cell).then_some(cell))
     }
 }

@@ -29,7 +29,8 @@ impl<R> Path<R> {
     }
 }
 
-// The same whichever point is asked.
+// The same whichever point is asked. A spread asks two records at one point, and a path one record at two: what they
+// share is `difference`, and one body for both would be no plainer.
 impl<R: Record> Record for Path<R> {
     ghost meaning = { λ s p. minus (R.Record.meaning s.inner s.source) (R.Record.meaning s.inner s.sink) };
 

@@ -12,7 +12,9 @@ pub trait Record: Copy {
     // The proof that every value it holds is in range.
     ghost ranged: { (s : Self) (p : ℕ) → Ranged (meaning s p) };
 
-    // The value at a point, an hour and a day, if any; or the fault for a point that is not known.
+    // The value at a point, an hour and a day, if any; or the fault for a point that is not known. The three stay
+    // apart: a path asks at points of its own, and a calendar knows no point, so a type of all three would be
+    // taken apart wherever it comes.
     fn ask(&self, point: Point, hour: Hour, day: u8) -> Result<Option<Price>, RecordFault>
         ensures { result ≡ answer (meaning self.now point) hour day };
 }
