@@ -1,33 +1,51 @@
--- A search that passes rows of other numbers finds the first row of its number.
-use Rattle.std.proofs.Common.{◌≡◌, ℕ, suc, ◌+◌, ◌<◌, Bool, true, false, cond, eqb, List, [], ◌∷◌, ◌++◌, length, get_or, take, drop, Some, None, Option, sym, refl, ap, ◌∙◌, arith, drop-cons}
-use Rattle.std.proofs.lemmas.List.{take-append-drop, take_more, get_or_read}
+-- The first row of a number, by its place: where a search stops tells the row, and how to take it out.
+use Rattle.std.proofs.Common.{◌≡◌, ℕ, suc, ◌+◌, Bool, true, false, cond, eqb, ltb, List, [], ◌∷◌, length, Some, None, Option, Err, is_some, slice_index_or, sym, refl, ap, ◌∙◌, subst, arith}
+use Rattle.std.proofs.lemmas.Bool.{both_ways, lt-ltb, le-ltb, ltb-true, ltb-false}
+use Rattle.std.specs.Option.{ok_or}
+use Rattle.std.specs.List.{position, position_or_len}
 use Rattle.book.specs.declared.row.Row.{Row}
-use Rattle.book.specs.Rows.{find, without, Placed}
+use Rattle.book.specs.Rows.{find, Placed}
 
-none_split : (b : Bool) (x : Row) (o : Option Row) → cond b (Some x) o ≡ None → (b ≡ false) × (o ≡ None)
-none_split true x o h = let z : ◌≡◌ {A = ℕ} 0 1 = cc in absurd (omega arith)
-none_split false x o h = (refl, h)
+-- the row has the number
+abbrev pub bears : ℕ → Row → Bool
+bears n r = eqb r.submission.number n
 
-find_at : (n : ℕ) (xs : List Row) (q : Row) (ys : List Row) → find n xs ≡ None → eqb q.submission.number n ≡ true → (find n (xs ++ (q ∷ ys)) ≡ Some q) × (without n (xs ++ (q ∷ ys)) ≡ xs ++ ys)
-find_at n [] q ys h e = (rw e, rw e)
-find_at n (r ∷ xs) q ys h e =
-    let s = none_split (eqb r.submission.number n) r (find n xs) h in
-    let i = find_at n xs q ys s.1 e in
-    (rw s.0 i.0, rw s.0 (ap (λ (zs : List Row). r ∷ zs) i.1))
+-- a row of another number goes before
+behind : (n : ℕ) (r : Row) (rs : List Row) (k : ℕ) (b : Bool) → eqb r.submission.number n ≡ false → Placed n rs (cond b (Some k) None) → Placed n (r ∷ rs) (cond b (Some (suc k)) None)
+behind n r rs k true e p = (omega (arith, p.0), (λ d. rw e (p.1 d)), rw e (ap (λ (zs : List Row). r ∷ zs) p.2))
+behind n r rs k false e p = rw e p
 
-find_none : (n : ℕ) (xs : List Row) (q : Row) → find n xs ≡ None → eqb q.submission.number n ≡ false → find n (xs ++ (q ∷ [])) ≡ None
-find_none n [] q h e = rw e
-find_none n (r ∷ xs) q h e =
-    let s = none_split (eqb r.submission.number n) r (find n xs) h in
-    rw s.0 (find_none n xs q s.1 e)
+placed_by : (n : ℕ) (r : Row) (rs : List Row) (b : Bool) → eqb r.submission.number n ≡ b → Placed n rs (position (bears n) rs) → Placed n (r ∷ rs) (cond b (Some 0) (cond (ltb (position_or_len (bears n) rs) (length rs)) (Some (suc (position_or_len (bears n) rs))) None))
+placed_by n r rs true e p = (omega arith, (λ d. rw e refl), rw e refl)
+placed_by n r rs false e p = behind n r rs (position_or_len (bears n) rs) (ltb (position_or_len (bears n) rs) (length rs)) e p
 
--- the row at a place past which the number was not met
-module _ (n : ℕ) (rs : List Row) (i : ℕ) (q : Row) (l : i < length rs) (h : find n (take i rs) ≡ None) (at : q ≡ get_or rs i q) where
-  pub placed_at : eqb q.submission.number n ≡ true → Placed n rs (Some i)
-  placed_at e =
-      let s : rs ≡ take i rs ++ (q ∷ drop (suc i) rs) = sym (take-append-drop i rs) ∙ ap (λ (xs : List Row). take i rs ++ xs) (drop-cons rs i q l ∙ ap (λ (y : Row). y ∷ drop (suc i) rs) (sym at)) in
-      let f = find_at n (take i rs) q (drop (suc i) rs) h e in
-      (l, (λ d. ap (find n) s ∙ f.0 ∙ ap Some (get_or_read rs i q l at d)), ap (without n) s ∙ f.1)
+one_more : (k m : ℕ) (b : Bool) → ltb k m ≡ b → ltb (suc k) (suc m) ≡ b
+one_more k m true e = lt-ltb (suc k) (suc m) (omega (arith, ltb-true k m e))
+one_more k m false e = le-ltb (suc k) (suc m) (omega (arith, ltb-false k m e))
 
-  pub none_more : eqb q.submission.number n ≡ false → find n (take (i + 1) rs) ≡ None
-  none_more e = ap (find n) (take_more rs i q l ∙ ap (λ (y : Row). take i rs ++ (y ∷ [])) (sym at)) ∙ find_none n (take i rs) q h e
+first : (n : ℕ) (r : Row) (rs : List Row) (b : Bool) → eqb r.submission.number n ≡ b →
+    position (bears n) (r ∷ rs) ≡ cond b (Some 0) (cond (ltb (position_or_len (bears n) rs) (length rs)) (Some (suc (position_or_len (bears n) rs))) None)
+first n r rs true e = rw e (ap (λ (b : Bool). cond b (Some 0) None) (lt-ltb 0 (length (r ∷ rs)) (omega arith)))
+first n r rs false e =
+    let k = position_or_len (bears n) rs in
+    let more : 1 + k ≡ suc k = omega arith in
+    rw e (ap (λ (m : ℕ). cond (ltb m (length (r ∷ rs))) (Some m) None) more ∙ ap (λ (b : Bool). cond b (Some (suc k)) None) (one_more k (length rs) (ltb k (length rs)) refl))
+
+pub placed : (n : ℕ) (rs : List Row) → Placed n rs (position (bears n) rs)
+placed n [] = refl
+placed n (r ∷ rs) =
+    let b = eqb r.submission.number n in
+    subst (Placed n (r ∷ rs)) (sym (first n r rs b refl)) (placed_by n r rs b refl (placed n rs))
+
+-- whether there is a place is whether the number stands
+pub standing : (n : ℕ) (rs : List Row) (o : Option ℕ) (d : Row) → Placed n rs o → is_some o ≡ true → (r : Row) × (find n rs ≡ Some r)
+standing n rs None d p e = absurd (both_ways false refl e)
+standing n rs (Some i) d p e = (slice_index_or rs i d, p.1 d)
+
+pub not_standing : (n : ℕ) (rs : List Row) (o : Option ℕ) → Placed n rs o → is_some o ≡ false → find n rs ≡ None
+not_standing n rs None p e = p
+not_standing n rs (Some i) p e = absurd (both_ways true e refl)
+
+pub no_place : {E : Type 0} (n : ℕ) (rs : List Row) (o : Option ℕ) (f g : E) → Placed n rs o → Err f ≡ ok_or o g → (find n rs ≡ None) × (f ≡ g)
+no_place n rs None f g p e = (p, cc)
+no_place n rs (Some k) f g p e = let z : ◌≡◌ {A = ℕ} 0 1 = cc in absurd (omega arith)

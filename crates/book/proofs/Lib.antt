@@ -1,7 +1,6 @@
 pub mod Exposures
 pub mod Finding
 pub mod Drawing
-pub mod Holdings
 pub mod Totals
 pub mod Answering
 pub mod Submitting

@@ -1,5 +1,6 @@
 -- The rights that a counter-party holds. Assumes nothing.
-use Rattle.std.specs.Prelude.{ℕ, Bool, true, cond, not, ◌&&◌, List, [], ◌∷◌, length, is_some, Some, None, Option, ◌==◌, nat_le}
+use Rattle.std.specs.Prelude.{ℕ, Bool, true, not, ◌&&◌, List, [], ◌∷◌, length, is_some, Some, None, Option, ◌==◌, nat_le}
+use Rattle.std.specs.List.{find}
 use Rattle.market.specs.declared.right.PathHour.{PathHour}
 use Rattle.market.specs.declared.right.Right.{Right}
 use Rattle.market.specs.Units.{hour_fits}
@@ -9,8 +10,7 @@ same_path p q = p.source == q.source && (p.sink == q.sink && p.hour == q.hour)
 
 -- the right on a path at an hour, if one is held
 abbrev pub right_on : PathHour → List Right → Option Right
-right_on p [] = None
-right_on p (r ∷ rs) = cond (same_path r.path p) (Some r) (right_on p rs)
+right_on p rs = find (λ r. same_path r.path p) rs
 
 -- its tenths; without a right they are 0
 abbrev pub tenths_in : Option Right → ℕ

@@ -9,7 +9,7 @@ const MOST_TOTAL: i64 = 100_000_000_000_000_000;
 pub(crate) fn out_of_range(total: i64) -> bool
     ensures { result ≡ beyond total }
 {
-    total < -MOST_TOTAL || total > MOST_TOTAL
+    !(-MOST_TOTAL..=MOST_TOTAL).contains(&total)
 }
 
 // Whether a change of the total would raise it, and past the limit.

@@ -2,7 +2,6 @@
 ghost use Rattle.std.specs.Prelude.{◌≡◌};
 ghost use Rattle.book.specs.Covers.{claimed, draw};
 
-use crate::rights::same_path;
 use crate::row::Row;
 use market::kind::Kind;
 use market::right::PathHour;
@@ -35,7 +34,7 @@ pub(crate) fn drawn_by(row: &Row, path: PathHour) -> Tenths
     ensures { result ≡ draw path row.now }
 {
     match path_claimed(&row.submission) {
-        Some(own) if same_path(own, path) => row.cover,
+        Some(own) if own == path => row.cover,
         _ => 0,
     }
 }

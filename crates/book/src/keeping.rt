@@ -16,24 +16,16 @@ impl Ledger {
     pub(crate) fn place(&self, number: u32) -> Option<usize>
         ensures { Placed number self.now.rows.items result }
     {
-        for i in 0..self.rows.len() {
-            if self.rows[i].submission.number() == number {
-                return Some(i);
-            }
-        }
-        None
+        self.rows
+            .iter()
+            .position(|row| row.submission.number() == number)
     }
 
     // What is left of some tenths of a path and hour after all that the rows draw there.
     pub(crate) fn undrawn(&self, tenths: Tenths, path: PathHour) -> Tenths
         ensures { result ≡ tenths - drawn path self.now.rows.items }
     {
-        let mut left = tenths;
-        for i in 0..self.rows.len() {
-            let row = self.rows[i];
-            left = left.saturating_sub(drawn_by(&row, path));
-        }
-        left
+        self.rows.iter().fold(tenths, |left, row| left.saturating_sub(drawn_by(row, path)))
     }
 
     pub(crate) fn add(&mut self, row: Row)

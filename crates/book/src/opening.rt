@@ -19,7 +19,7 @@ pub struct Unopened {
 pub(crate) fn limit_fits(limit: i64) -> bool
     ensures { result ≡ fit_limit limit }
 {
-    0 <= limit && limit <= MOST_LIMIT
+    (0..=MOST_LIMIT).contains(&limit)
 }
 
 impl Book {

@@ -6,7 +6,8 @@ ghost use Rattle.book.specs.Numbers.{number_of};
 use exposure::fault::RuleFault;
 use std::alloc::AllocError;
 
-// `exposure` is the exposure of the submission, and `room` what is left of the limit before the call.
+// `exposure` is the exposure of the submission, and `room` what is left of the limit before the call. The two refusals
+// that bring them have numbers of their own, and one case with a call beside it would be no plainer.
 #[derive(Clone, Copy, PartialEq, Eq, Debug)]
 pub enum Refusal {
     NumberStands,
@@ -22,6 +23,7 @@ pub enum Refusal {
 }
 
 impl Refusal {
+    // A case that brings something has no discriminant, so the numbers stand here and not in the enum.
     pub fn number(self) -> u8
         ensures { result ≡ number_of self }
     {

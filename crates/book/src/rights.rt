@@ -1,61 +1,47 @@
 // The rights of a book: finding one, and the tests of them all.
 ghost use Rattle.std.specs.Prelude.{◌≡◌};
-ghost use Rattle.book.specs.Rights.{same_path, right_fits, right_on, tenths_of, rights_fit};
+ghost use Rattle.book.specs.Rights.{right_fits, right_on, tenths_of, each_fits, rights_fit};
 
-use crate::state::MOST_RIGHTS;
-use market::right::{PathHour, Right};
+use market::right::{MOST_RIGHTS, PathHour, Right};
 use market::units::{HOURS, Tenths};
 
 pub(crate) const MOST_TENTHS: Tenths = 1_000_000;
-
-pub(crate) fn same_path(a: PathHour, b: PathHour) -> bool
-    ensures { result ≡ same_path a b }
-{
-    a.source == b.source && a.sink == b.sink && a.hour == b.hour
-}
 
 // The first right on a path at an hour.
 fn right_on(rights: &[Right], path: PathHour) -> Option<Right>
     ensures { result ≡ right_on path rights.now }
 {
-    for i in 0..rights.len() {
-        let right = rights[i];
-        if same_path(right.path, path) {
-            return Some(right);
-        }
-    }
-    None
+    rights.iter().find(|right| right.path == path).copied()
 }
 
 pub(crate) fn tenths_on(rights: &[Right], path: PathHour) -> Tenths
     ensures { result ≡ tenths_of rights.now path }
 {
-    match right_on(rights, path) {
-        Some(right) => right.tenths,
-        None => 0,
-    }
+    right_on(rights, path).map_or(0, |right| right.tenths)
 }
 
 fn right_fits(right: Right) -> bool
     ensures { result ≡ right_fits right }
 {
     let path = right.path;
-    1 <= path.hour && path.hour <= HOURS && right.tenths <= MOST_TENTHS && path.source != path.sink
+    (1..=HOURS).contains(&path.hour) && right.tenths <= MOST_TENTHS && path.source != path.sink
+}
+
+// Each right fits, and none has the path and hour of a later one.
+fn each_fits(rights: &[Right]) -> bool
+    ensures { result ≡ each_fits rights.now }
+{
+    match rights {
+        [] => true,
+        [right, later @ ..] => {
+            right_fits(*right) && right_on(later, right.path).is_none() && each_fits(later)
+        }
+    }
 }
 
 // At most 200 rights, each fit, and no path and hour twice.
 pub(crate) fn all_fit(rights: &[Right]) -> bool
     ensures { result ≡ rights_fit rights.now }
 {
-    if rights.len() > MOST_RIGHTS {
-        return false;
-    }
-    for i in 0..rights.len() {
-        let right = rights[i];
-        let others = &rights[i + 1..];
-        if !right_fits(right) || right_on(others, right.path).is_some() {
-            return false;
-        }
-    }
-    true
+    rights.len() <= MOST_RIGHTS && each_fits(rights)
 }

@@ -3,9 +3,8 @@ ghost use Rattle.std.specs.Prelude.{◌≤◌, pos, ◌≤ℤ◌, vec_capacity};
 
 use crate::ledger::Ledger;
 use crate::row::Row;
+pub use market::right::MOST_RIGHTS;
 use market::right::Right;
-
-pub const MOST_RIGHTS: usize = 200;
 
 // In grains: 10^16.
 pub const MOST_LIMIT: i64 = 10_000_000_000_000_000;

@@ -21,10 +21,8 @@ impl Book {
     fn cover(&self, submission: &Submission) -> Tenths
         ensures { result ≡ cover_of (view self.now).rights (view self.now).rows submission.now }
     {
-        match path_claimed(submission) {
-            Some(path) => submission.curve().last().quantity.min(self.free(path)),
-            None => 0,
-        }
+        let quantity = submission.curve().last().quantity;
+        path_claimed(submission).map_or(0, |path| quantity.min(self.free(path)))
     }
 
     // The answer to a submission: nothing is changed yet.
@@ -33,7 +31,7 @@ impl Book {
         ensures fits { IfOk result (λ a. (vec_len self.now.standing.rows < 500) × (grains a.exposure ≡ true)) }
         ensures kept { R.worth rule.new ≡ R.worth rule.old }
     {
-        if let Some(_) = self.standing.place(submission.number()) {
+        if self.standing.place(submission.number()).is_some() {
             return Err(Refusal::NumberStands);
         }
         if self.standing.rows.len() >= MOST_ROWS {

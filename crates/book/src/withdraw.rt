@@ -14,9 +14,7 @@ impl Book {
         ensures answer { result ≡ withdraw_answer (view self.old) number }
         ensures after { view self.new ≡ after (view self.old) (withdrew number result) }
     {
-        let Some(i) = self.standing.place(number) else {
-            return Err(Refusal::NotStanding);
-        };
+        let i = self.standing.place(number).ok_or(Refusal::NotStanding)?;
         let row = self.standing.rows[i];
         let exposure = row.exposure;
         let total = self.standing.total;

@@ -23,24 +23,17 @@ const RIGHT: Right = Right {
 };
 
 fn rates() -> Result<Rates, Fail> {
-    match Rates::make([100, 0, -50, 200]) {
-        Ok(rates) => Ok(rates),
-        Err(_) => Err(Fail::new("no rates")),
-    }
+    Ok(Rates::make([100, 0, -50, 200])?)
 }
 
-fn reserved(heap: Global) -> Result<Room, Fail> {
-    match Room::reserve(heap) {
-        Ok(room) => Ok(room),
-        Err(_) => Err(Fail::new("no memory")),
-    }
+// A book, or what refuses its opening.
+fn opening(heap: Global, limit: i64, rights: &[Right]) -> Result<Book, Refusal> {
+    let room = Room::reserve(heap)?;
+    Book::open(room, limit, rights).map_err(|unopened| unopened.refusal)
 }
 
 fn opened(heap: Global, limit: i64, rights: &[Right]) -> Result<Book, Fail> {
-    match Book::open(reserved(heap)?, limit, rights) {
-        Ok(book) => Ok(book),
-        Err(_) => Err(Fail::new("not opened")),
-    }
+    Ok(opening(heap, limit, rights)?)
 }
 
 // An energy bid of one tenth.
@@ -54,16 +47,11 @@ fn bid(number: u32) -> Result<Submission, Fail> {
         sink: 0,
         claim: 0,
     };
-    match Submission::make(
-        figures,
-        &[Step {
-            quantity: 1,
-            price: 1,
-        }],
-    ) {
-        Ok(submission) => Ok(submission),
-        Err(_) => Err(Fail::new("not made")),
-    }
+    let one = Step {
+        quantity: 1,
+        price: 1,
+    };
+    Ok(Submission::make(figures, &[one])?)
 }
 
 // A point-to-point bid on the path and hour, at a price.
@@ -77,10 +65,7 @@ fn claiming(number: u32, claim: u8, quantity: u32, price: i32) -> Result<Submiss
         sink: 2,
         claim,
     };
-    match Submission::make(figures, &[Step { quantity, price }]) {
-        Ok(submission) => Ok(submission),
-        Err(_) => Err(Fail::new("not made")),
-    }
+    Ok(Submission::make(figures, &[Step { quantity, price }])?)
 }
 
 // What submitting a bid of an exposure answers.
@@ -286,12 +271,9 @@ fn a_refused_claim_keeps_no_cover(rt: HostRuntime) -> Result<(), Fail> {
     Ok(())
 }
 
-// The number that refuses an opening, or 0.
-fn opening(heap: Global, limit: i64, rights: &[Right]) -> Result<u8, Fail> {
-    match Book::open(reserved(heap)?, limit, rights) {
-        Ok(_) => Ok(0),
-        Err(unopened) => Ok(unopened.refusal.number()),
-    }
+// The number that an opening returns: 0 where a book opens.
+fn number(opening: Result<Book, Refusal>) -> u8 {
+    opening.map_or_else(|refusal| refusal.number(), |_| 0)
 }
 
 #[test]
@@ -305,31 +287,19 @@ fn openings_in_order_of_tests(rt: HostRuntime) -> Result<(), Fail> {
         path: PathHour { sink: 1, ..PATH },
         tenths: 1,
     };
-    assert_eq!(rt; opening(heap, 0, &[right])?, 0);
-    assert_eq!(rt; opening(heap, 0, &[right, right])?, 41);
-    assert_eq!(rt; opening(heap, -1, &[right, right])?, 33);
-    assert_eq!(rt; opening(heap, 0, &[loop_path])?, 41);
-    assert_eq!(rt;
-        opening(
-            heap,
-            0,
-            &[Right {
-                tenths: 1_000_001,
-                ..right
-            }],
-        )?,
-        41
-    );
-    assert_eq!(rt;
-        opening(
-            heap,
-            0,
-            &[Right {
-                path: PathHour { hour: 25, ..PATH },
-                tenths: 1,
-            }],
-        )?,
-        41
-    );
+    assert_eq!(rt; number(opening(heap, 0, &[right])), 0);
+    assert_eq!(rt; number(opening(heap, 0, &[right, right])), 41);
+    assert_eq!(rt; number(opening(heap, -1, &[right, right])), 33);
+    assert_eq!(rt; number(opening(heap, 0, &[loop_path])), 41);
+    let too_much = Right {
+        tenths: 1_000_001,
+        ..right
+    };
+    assert_eq!(rt; number(opening(heap, 0, &[too_much])), 41);
+    let too_late = Right {
+        path: PathHour { hour: 25, ..PATH },
+        tenths: 1,
+    };
+    assert_eq!(rt; number(opening(heap, 0, &[too_late])), 41);
     Ok(())
 }

@@ -1,6 +1,7 @@
 // Examples of curves and submissions, at the edges of their rules.
 use market::curve::Curve;
 use market::kind::{Figures, Kind};
+use market::refusal::Refusal;
 use market::step::Step;
 use market::submission::Submission;
 use market::units::{Price, Tenths};
@@ -31,19 +32,13 @@ const ONE: [Step; 1] = [Step {
     price: 500,
 }];
 
-// 0 for a curve or a submission that is made.
-fn curve_number(answer: Result<Curve, market::refusal::Refusal>) -> u8 {
-    match answer {
-        Ok(_) => 0,
-        Err(refusal) => refusal.number(),
-    }
+// The number that making a curve or a submission returns: 0 where it is made.
+fn number<T: Drop>(answer: Result<T, Refusal>) -> u8 {
+    answer.map_or_else(|refusal| refusal.number(), |_| 0)
 }
 
 fn made(figures: Figures, steps: &[Step]) -> u8 {
-    match Submission::make(figures, steps) {
-        Ok(_) => 0,
-        Err(refusal) => refusal.number(),
-    }
+    number(Submission::make(figures, steps))
 }
 
 fn one_step(quantity: Tenths, price: Price) -> u8 {
@@ -100,10 +95,10 @@ const RISING: [Step; 11] = [
 
 #[test]
 fn ten_steps_and_no_more(rt: HostRuntime) {
-    assert_eq!(rt; curve_number(Curve::bid(&RISING[0..0])), 13);
-    assert_eq!(rt; curve_number(Curve::bid(&RISING[0..1])), 0);
-    assert_eq!(rt; curve_number(Curve::bid(&RISING[0..10])), 0);
-    assert_eq!(rt; curve_number(Curve::bid(&RISING)), 13);
+    assert_eq!(rt; number(Curve::bid(&RISING[0..0])), 13);
+    assert_eq!(rt; number(Curve::bid(&RISING[0..1])), 0);
+    assert_eq!(rt; number(Curve::bid(&RISING[0..10])), 0);
+    assert_eq!(rt; number(Curve::bid(&RISING)), 13);
     assert_eq!(rt; made(BID, &RISING), 13);
 }
 
@@ -150,11 +145,11 @@ fn bids_fall_and_offers_rise(rt: HostRuntime) {
             price: 400,
         },
     ];
-    assert_eq!(rt; curve_number(Curve::bid(&falling)), 0);
-    assert_eq!(rt; curve_number(Curve::offer(&falling)), 13);
-    assert_eq!(rt; curve_number(Curve::bid(&rising)), 13);
-    assert_eq!(rt; curve_number(Curve::offer(&rising)), 0);
-    assert_eq!(rt; curve_number(Curve::bid(&equal)), 13);
+    assert_eq!(rt; number(Curve::bid(&falling)), 0);
+    assert_eq!(rt; number(Curve::offer(&falling)), 13);
+    assert_eq!(rt; number(Curve::bid(&rising)), 13);
+    assert_eq!(rt; number(Curve::offer(&rising)), 0);
+    assert_eq!(rt; number(Curve::bid(&equal)), 13);
 }
 
 #[test]
@@ -189,9 +184,7 @@ fn paths_have_one_step(rt: HostRuntime) {
 
 #[test]
 fn a_submission_is_the_one_asked_for(rt: HostRuntime) -> Result<(), Fail> {
-    let Ok(submission) = Submission::make(PATH, &ONE) else {
-        return Err(Fail::new("not made"));
-    };
+    let submission = Submission::make(PATH, &ONE)?;
     assert_eq!(rt; submission.number(), 7);
     assert_eq!(rt;
         submission.kind(),

@@ -7,10 +7,7 @@ pub const SAMPLE_BYTES: usize = 5760;
 fn put(bytes: &mut [u8], at: usize, cell: [u8; 4])
     requires { at + 4 ≤ length bytes.old }
 {
-    bytes[at] = cell[0];
-    bytes[at + 1] = cell[1];
-    bytes[at + 2] = cell[2];
-    bytes[at + 3] = cell[3];
+    bytes[at..at + 4].copy_from_slice(&cell);
 }
 
 pub(crate) fn two_points() -> [u8; SAMPLE_BYTES] {

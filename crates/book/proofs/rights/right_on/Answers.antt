@@ -1,12 +1,11 @@
-use Rattle.std.proofs.Common.{sym, ◌∙◌, arith}
-use Rattle.book.proofs.Holdings.{on_here, on_later, on_none}
+use Rattle.std.proofs.Common.{rules, tests, ◌∙◌}
+use Rattle.std.proofs.lemmas.Iterator.{YieldsList-from_slice}
+use Rattle.std.proofs.lemmas.Iterator.Search.{find_from_yields_List}
+use Rattle.book.specs.Rights.{same_path}
 use Rattle.book.proofs.rights.right_on.Goals as goal
 
-pub returns-then-same_path : goal.returns-then-same_path
-returns-then-same_path c = sym (sym c.loop-i.invariant ∙ on_here c.args.path c.args.rights.now c.loop-i.i _ (omega arith) (sym c.if-same_path.ensures))
-
-pub loop-i-preserved : goal.loop-i-preserved
-loop-i-preserved c = sym (on_later c.args.path c.args.rights.now c.loop-i.i _ (omega arith) (sym c.if-same_path.ensures)) ∙ c.loop-i.invariant
-
 pub returns : goal.returns
-returns c = sym (sym c.loop-i.invariant ∙ on_none c.args.path c.args.rights.now c.loop-i.i (omega arith))
+returns c =
+    let p = c.args.path in
+    let rights = c.args.rights.now in
+    c.copied.ensures ∙ find_from_yields_List (λ r. same_path r.path p) _ _ c.find.result c.find.ensures.ran (YieldsList-from_slice rights (cc)) (λ x b q k. search (rules, tests))

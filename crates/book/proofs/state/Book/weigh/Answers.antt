@@ -5,16 +5,18 @@ use Rattle.book.specs.Sums.{grains}
 use Rattle.book.specs.Views.{view}
 use Rattle.book.proofs.Answering.{within_ok, stood}
 use Rattle.book.proofs.Exposures.{grains_in}
+use Rattle.book.proofs.Finding.{standing, not_standing}
 use Rattle.book.proofs.Submitting.{out_of_range, past_limit, within_limit}
 use Rattle.book.proofs.Totals.{reads}
 use Rattle.book.proofs.state.Book.weigh.Goals as goal
 
-pub returns-in-Some : goal.returns-in-Some
-returns-in-Some g c =
+pub returns-then-is_some : goal.returns-then-is_some
+returns-then-is_some g c =
     let s = c.args.submission.now in
     let d : Row = record { submission = s; exposure = pos 0; cover = 0 } in
+    let f = standing c.number.result (view c.args.self.now).rows c.place.result d c.place.ensures (sym c.if-is_some.ensures) in
     record {
-      answer = stood (view c.args.self.now) s (g.R.Rule.worth c.args.rule.now) _ (ap (λ (n : ℕ). find n (view c.args.self.now).rows) (sym c.number.ensures) ∙ c.in-Some.ensures.1 d);
+      answer = stood (view c.args.self.now) s (g.R.Rule.worth c.args.rule.now) f.0 (ap (λ (n : ℕ). find n (view c.args.self.now).rows) (sym c.number.ensures) ∙ f.1);
       fits = tt;
       kept = refl;
     }
@@ -41,7 +43,7 @@ returns-then-out_of_range g c =
     let bx = within_ok _ x c.in_ok-exposure.ensures.answer (g.R.Rule.within c.args.rule.now c.args.submission.now c.cover-cover.result) in
     record {
       answer = out_of_range c.args.self.now c.args.submission.now (g.R.Rule.worth c.args.rule.now) c.number.result c.cover-cover.result x
-          c.number.ensures c.in_default.ensures (omega arith) c.cover-cover.ensures c.in_ok-exposure.ensures.answer (reads c.args.self.now x bx) (sym c.if-out_of_range.ensures);
+          c.number.ensures (not_standing c.number.result (view c.args.self.now).rows c.place.result c.place.ensures (sym c.if-is_some.ensures)) (omega arith) c.cover-cover.ensures c.in_ok-exposure.ensures.answer (reads c.args.self.now x bx) (sym c.if-out_of_range.ensures);
       fits = tt;
       kept = c.value.ensures.kept;
     }
@@ -52,7 +54,7 @@ returns-then-passes g c =
     let bx = within_ok _ x c.in_ok-exposure.ensures.answer (g.R.Rule.within c.args.rule.now c.args.submission.now c.cover-cover.result) in
     record {
       answer = past_limit c.args.self.now c.args.submission.now (g.R.Rule.worth c.args.rule.now) c.number.result c.cover-cover.result x
-          c.number.ensures c.in_default.ensures (omega arith) c.cover-cover.ensures c.in_ok-exposure.ensures.answer (reads c.args.self.now x bx)
+          c.number.ensures (not_standing c.number.result (view c.args.self.now).rows c.place.result c.place.ensures (sym c.if-is_some.ensures)) (omega arith) c.cover-cover.ensures c.in_ok-exposure.ensures.answer (reads c.args.self.now x bx)
           (sym c.if-out_of_range.ensures) (sym c.if-passes.ensures);
       fits = tt;
       kept = c.value.ensures.kept;
@@ -65,7 +67,7 @@ returns g c =
     let r = reads c.args.self.now x bx in
     record {
       answer = within_limit c.args.self.now c.args.submission.now (g.R.Rule.worth c.args.rule.now) c.number.result c.cover-cover.result x
-          c.number.ensures c.in_default.ensures (omega arith) c.cover-cover.ensures c.in_ok-exposure.ensures.answer r
+          c.number.ensures (not_standing c.number.result (view c.args.self.now).rows c.place.result c.place.ensures (sym c.if-is_some.ensures)) (omega arith) c.cover-cover.ensures c.in_ok-exposure.ensures.answer r
           (sym c.if-out_of_range.ensures) (sym c.if-passes.ensures);
       fits = (omega arith, ap grains r.change_is ∙ grains_in x bx);
       kept = c.value.ensures.kept;

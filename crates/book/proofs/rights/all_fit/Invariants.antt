@@ -1,7 +1,0 @@
-use Rattle.std.proofs.Common.{◌≡◌, drop}
-use Rattle.book.specs.Rights.{each_fits}
-use Rattle.book.proofs.rights.all_fit.Given as goal
-
--- what is left to look at decides
-abbrev pub invariant-loop-i : goal.invariant-loop-i
-invariant-loop-i l = each_fits (drop l.i l.rights) ≡ each_fits l.rights
