@@ -1,17 +1,10 @@
-use Rattle.std.proofs.Common.{◌≡◌, ℕ, ◌-◌, ◌≤◌, min, length, get_or, sym, ap, ◌∙◌, subst, arith}
+use Rattle.std.proofs.Common.{◌≡◌, ℕ, ◌-◌, ◌≤◌, length, get_or, sym, ap, ◌∙◌, subst, arith}
 use Rattle.std.proofs.lemmas.List.{get_or-take, length-take}
 use Rattle.market.specs.declared.step.Step.{Step}
 use Rattle.market.specs.Orders.{Fit}
 use Rattle.market.specs.Reading.{blank, steps_of}
 use Rattle.market.proofs.Orderings.{lawful_one, last_fits}
 use Rattle.market.proofs.curve.Curve.last.Goals as goal
-
-pub overflow_sub-result : goal.overflow_sub-result
-overflow_sub-result c =
-    let curve = c.args.self.now in
-    let k : 1 ≤ length (steps_of curve) = lawful_one curve.side (steps_of curve) curve.kept in
-    let e : length (steps_of curve) ≡ min curve.count (length curve.steps) = length-take curve.count curve.steps in
-    omega arith
 
 pub returns : goal.returns
 returns c =
