@@ -1,9 +1,7 @@
 -- How the tests of submit and withdraw come to the answer.
-use Rattle.std.proofs.Common.{◌≡◌, ℕ, Bool, true, false, cond, leb, length, ℤ, ◌+ℤ◌, neg_ℤ, Some, None, Ok, Err, Option, Result, sym, ap, ◌∙◌, arith}
+use Rattle.std.proofs.Common.{◌≡◌, ℕ, Bool, true, false, cond, leb, length, ℤ, ◌+ℤ◌, neg_ℤ, Some, None, Ok, Err, Option, Result, sym, ap, ◌∙◌}
 use Rattle.market.specs.declared.submission.Submission.{Submission}
 use Rattle.exposure.specs.declared.fault.RuleFault.{RuleFault}
-use Rattle.market.specs.Bounds.{Bounded}
-use Rattle.exposure.specs.Worth.{Within}
 use Rattle.book.specs.declared.answer.Accepted.{Accepted}
 use Rattle.book.specs.declared.refusal.Refusal.{Refusal}
 use Rattle.book.specs.declared.refusal.Refusal.TheVariants as refusal
@@ -13,11 +11,6 @@ use Rattle.book.specs.Covers.{cover_of}
 use Rattle.book.specs.Rows.{find}
 use Rattle.book.specs.Sums.{sum}
 use Rattle.book.specs.Views.{Meaning, View}
-
--- a value that a rule answers lies in a rule's range
-pub within_ok : (w : Result ℤ RuleFault) (x : ℤ) → Ok x ≡ w → Within w → Bounded 100000000000000 x
-within_ok (Ok y) x e h = let k : x ≡ y = cc in let a = h.low in let b = h.high in record { low = rw k a; high = rw k b }
-within_ok (Err f) x e h = let z : ◌≡◌ {A = ℕ} 0 1 = cc in absurd (omega arith)
 
 module _ (v : View) (s : Submission) (m : Meaning) where
   pub stood : (r : Row) → find s.number v.rows ≡ Some r → Err refusal.NumberStands ≡ submit_answer v s m

@@ -1,16 +1,14 @@
 -- Each row lies within 10^14 grains of 0, and so a sum of n rows within n times that.
-use Rattle.std.proofs.Common.{◌≡◌, ℕ, zero, suc, ◌*◌, ◌<◌, ◌≤◌, Bool, true, ◌&&◌, List, [], ◌∷◌, ◌++◌, length, get_or, ℤ, pos, negsuc, ◌+ℤ◌, ◌-ℤ◌, neg_ℤ, ◌≤ℤ◌, sym, refl, ap, ◌∙◌, subst, arith}
+use Rattle.std.proofs.Common.{◌≡◌, ℕ, zero, suc, ◌*◌, ◌<◌, ◌≤◌, true, List, [], ◌∷◌, ◌++◌, length, get_or, ℤ, pos, negsuc, ◌+ℤ◌, ◌-ℤ◌, neg_ℤ, ◌≤ℤ◌, sym, refl, ap, ◌∙◌, subst, arith}
 use Rattle.std.proofs.Math.IntN.{+ℤ_assoc, +ℤ_comm}
 use Rattle.std.specs.Int.Signed.{le_z, mag, ≤ℤ_refl}
+use Rattle.std.proofs.lemmas.Bool.{and_from}
 use Rattle.std.proofs.lemmas.Int.{ints}
 use Rattle.std.specs.List.{remove}
 use Rattle.market.specs.Facts.{left_of, right_of}
 use Rattle.market.specs.Bounds.{Bounded}
 use Rattle.book.specs.declared.row.Row.{Row}
 use Rattle.book.specs.Sums.{sum, small, grains}
-
-both_true : (a b : Bool) → a ≡ true → b ≡ true → (a && b) ≡ true
-both_true a b p q = rw (p, q)
 
 pub bounded : (x : ℤ) → grains x ≡ true → Bounded 100000000000000 x
 bounded x h =
@@ -38,9 +36,9 @@ sum_push [] q = +ℤ_comm q.exposure (pos 0)
 sum_push (r ∷ rs) q = ap (λ (z : ℤ). r.exposure +ℤ z) (sum_push rs q) ∙ sym (+ℤ_assoc r.exposure (sum rs) q.exposure)
 
 pub small_push : (rs : List Row) (q : Row) → small rs ≡ true → grains q.exposure ≡ true → small (rs ++ (q ∷ [])) ≡ true
-small_push [] q h g = both_true (grains q.exposure) true g refl
+small_push [] q h g = and_from (grains q.exposure) true g refl
 small_push (r ∷ rs) q h g =
-    both_true (grains r.exposure) (small (rs ++ (q ∷ []))) (left_of (grains r.exposure) (small rs) h) (small_push rs q (right_of (grains r.exposure) (small rs) h) g)
+    and_from (grains r.exposure) (small (rs ++ (q ∷ []))) (left_of (grains r.exposure) (small rs) h) (small_push rs q (right_of (grains r.exposure) (small rs) h) g)
 
 -- one row less
 pub small_removed : (rs : List Row) (i : ℕ) → small rs ≡ true → small (remove rs i) ≡ true
@@ -48,7 +46,7 @@ small_removed [] zero h = refl
 small_removed [] (suc i) h = refl
 small_removed (r ∷ rs) zero h = right_of (grains r.exposure) (small rs) h
 small_removed (r ∷ rs) (suc i) h =
-    both_true (grains r.exposure) (small (remove rs i)) (left_of (grains r.exposure) (small rs) h) (small_removed rs i (right_of (grains r.exposure) (small rs) h))
+    and_from (grains r.exposure) (small (remove rs i)) (left_of (grains r.exposure) (small rs) h) (small_removed rs i (right_of (grains r.exposure) (small rs) h))
 
 sum_out : (rs : List Row) (i : ℕ) (d : Row) → i < length rs → sum (remove rs i) ≡ sum rs -ℤ (get_or rs i d).exposure
 sum_out [] i d h = absurd (omega arith)

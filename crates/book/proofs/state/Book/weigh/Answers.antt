@@ -3,11 +3,11 @@ use Rattle.book.specs.declared.row.Row.{Row}
 use Rattle.book.specs.Rows.{find}
 use Rattle.book.specs.Sums.{grains}
 use Rattle.book.specs.Views.{view}
-use Rattle.book.proofs.Answering.{within_ok, stood}
+use Rattle.book.proofs.Answering.{stood}
 use Rattle.book.proofs.Exposures.{grains_in}
 use Rattle.book.proofs.Finding.{standing, not_standing}
 use Rattle.book.proofs.Submitting.{out_of_range, past_limit, within_limit}
-use Rattle.book.proofs.Totals.{reads}
+use Rattle.book.proofs.Totals.{reads_valued}
 use Rattle.book.proofs.state.Book.weigh.Goals as goal
 
 pub returns-then-is_some : goal.returns-then-is_some
@@ -23,27 +23,26 @@ returns-then-is_some g c =
 
 pub overflow_add-total : goal.overflow_add-total
 overflow_add-total g c =
-    let bx = within_ok _ c.in_ok-exposure.exposure c.in_ok-exposure.ensures.answer (g.R.Rule.within c.args.rule.now c.args.submission.now c.cover-cover.result) in
-    (reads c.args.self.now c.in_ok-exposure.exposure bx).raise_fits
+    let r = reads_valued c.args.self.now c.in_ok-exposure.exposure _ c.in_ok-exposure.ensures.answer (g.R.Rule.within c.args.rule.now c.args.submission.now c.cover-cover.result) in
+    r.raise_fits
 
 pub passes-requires : goal.passes-requires
 passes-requires g c =
-    let bx = within_ok _ c.in_ok-exposure.exposure c.in_ok-exposure.ensures.answer (g.R.Rule.within c.args.rule.now c.args.submission.now c.cover-cover.result) in
-    let r = reads c.args.self.now c.in_ok-exposure.exposure bx in
+    let r = reads_valued c.args.self.now c.in_ok-exposure.exposure _ c.in_ok-exposure.ensures.answer (g.R.Rule.within c.args.rule.now c.args.submission.now c.cover-cover.result) in
     record { total = r.total_wide; change = r.change_wide }
 
 pub overflow_sub-result : goal.overflow_sub-result
 overflow_sub-result g c =
-    let bx = within_ok _ c.in_ok-exposure.exposure c.in_ok-exposure.ensures.answer (g.R.Rule.within c.args.rule.now c.args.submission.now c.cover-cover.result) in
-    (reads c.args.self.now c.in_ok-exposure.exposure bx).left_fits
+    let r = reads_valued c.args.self.now c.in_ok-exposure.exposure _ c.in_ok-exposure.ensures.answer (g.R.Rule.within c.args.rule.now c.args.submission.now c.cover-cover.result) in
+    r.left_fits
 
 pub returns-then-out_of_range : goal.returns-then-out_of_range
 returns-then-out_of_range g c =
     let x = c.in_ok-exposure.exposure in
-    let bx = within_ok _ x c.in_ok-exposure.ensures.answer (g.R.Rule.within c.args.rule.now c.args.submission.now c.cover-cover.result) in
+    let r = reads_valued c.args.self.now c.in_ok-exposure.exposure _ c.in_ok-exposure.ensures.answer (g.R.Rule.within c.args.rule.now c.args.submission.now c.cover-cover.result) in
     record {
       answer = out_of_range c.args.self.now c.args.submission.now (g.R.Rule.worth c.args.rule.now) c.number.result c.cover-cover.result x
-          c.number.ensures (not_standing c.number.result (view c.args.self.now).rows c.place.result c.place.ensures (sym c.if-is_some.ensures)) (omega arith) c.cover-cover.ensures c.in_ok-exposure.ensures.answer (reads c.args.self.now x bx) (sym c.if-out_of_range.ensures);
+          c.number.ensures (not_standing c.number.result (view c.args.self.now).rows c.place.result c.place.ensures (sym c.if-is_some.ensures)) (omega arith) c.cover-cover.ensures c.in_ok-exposure.ensures.answer r (sym c.if-out_of_range.ensures);
       fits = tt;
       kept = c.value.ensures.kept;
     }
@@ -51,10 +50,10 @@ returns-then-out_of_range g c =
 pub returns-then-passes : goal.returns-then-passes
 returns-then-passes g c =
     let x = c.in_ok-exposure.exposure in
-    let bx = within_ok _ x c.in_ok-exposure.ensures.answer (g.R.Rule.within c.args.rule.now c.args.submission.now c.cover-cover.result) in
+    let r = reads_valued c.args.self.now c.in_ok-exposure.exposure _ c.in_ok-exposure.ensures.answer (g.R.Rule.within c.args.rule.now c.args.submission.now c.cover-cover.result) in
     record {
       answer = past_limit c.args.self.now c.args.submission.now (g.R.Rule.worth c.args.rule.now) c.number.result c.cover-cover.result x
-          c.number.ensures (not_standing c.number.result (view c.args.self.now).rows c.place.result c.place.ensures (sym c.if-is_some.ensures)) (omega arith) c.cover-cover.ensures c.in_ok-exposure.ensures.answer (reads c.args.self.now x bx)
+          c.number.ensures (not_standing c.number.result (view c.args.self.now).rows c.place.result c.place.ensures (sym c.if-is_some.ensures)) (omega arith) c.cover-cover.ensures c.in_ok-exposure.ensures.answer r
           (sym c.if-out_of_range.ensures) (sym c.if-passes.ensures);
       fits = tt;
       kept = c.value.ensures.kept;
@@ -63,12 +62,11 @@ returns-then-passes g c =
 pub returns : goal.returns
 returns g c =
     let x = c.in_ok-exposure.exposure in
-    let bx = within_ok _ x c.in_ok-exposure.ensures.answer (g.R.Rule.within c.args.rule.now c.args.submission.now c.cover-cover.result) in
-    let r = reads c.args.self.now x bx in
+    let r = reads_valued c.args.self.now c.in_ok-exposure.exposure _ c.in_ok-exposure.ensures.answer (g.R.Rule.within c.args.rule.now c.args.submission.now c.cover-cover.result) in
     record {
       answer = within_limit c.args.self.now c.args.submission.now (g.R.Rule.worth c.args.rule.now) c.number.result c.cover-cover.result x
           c.number.ensures (not_standing c.number.result (view c.args.self.now).rows c.place.result c.place.ensures (sym c.if-is_some.ensures)) (omega arith) c.cover-cover.ensures c.in_ok-exposure.ensures.answer r
           (sym c.if-out_of_range.ensures) (sym c.if-passes.ensures);
-      fits = (omega arith, ap grains r.change_is ∙ grains_in x bx);
+      fits = (omega arith, ap grains r.change_is ∙ grains_in x r.small);
       kept = c.value.ensures.kept;
     }
