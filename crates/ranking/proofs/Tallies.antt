@@ -1,7 +1,9 @@
 -- Counts of elements: what one more day adds, and that a weaker test counts no fewer. Each goes by the list.
-use Rattle.std.proofs.Common.{◌≡◌, ℕ, suc, ◌+◌, ◌<◌, ◌≤◌, Bool, true, false, cond, T, List, [], ◌∷◌, ◌++◌, length, get_or, take, Some, None, Option, sym, refl, ap, ◌∙◌, arith, take_all}
+use Rattle.std.proofs.Common.{◌≡◌, ℕ, suc, ◌+◌, ◌<◌, ◌≤◌, Bool, true, false, cond, T, List, [], ◌∷◌, ◌++◌, length, get_or, is_some, take, Some, None, Option, sym, refl, ap, ◌∙◌, arith, take_all}
 use Rattle.std.proofs.lemmas.List.{take_more, get_or_read}
-use Rattle.ranking.specs.Counts.{tally}
+use Rattle.std.proofs.lemmas.List.Sums.{length-filter}
+use Rattle.std.specs.List.{count_by, filter}
+use Rattle.ranking.specs.Counts.{tally, present}
 use Rattle.ranking.specs.Percentile.{on_day}
 use Rattle.ranking.proofs.Tests.{no_some, some_same}
 
@@ -64,3 +66,12 @@ tally_mono f g (Some x ∷ xs) h =
     let rest = tally_mono f g xs (λ e y is t. h (suc e) y is t) in
     let here = one_mono (f x) (g x) (λ t. h 0 x refl t) in
     omega arith
+
+kept : {E : Type 0} (xs : List (Option E)) → length (filter is_some xs) ≡ present xs
+kept [] = refl
+kept (None ∷ xs) = kept xs
+kept (Some x ∷ xs) = let h = kept xs in omega arith
+
+-- the days that pass `is_some` are those that have an element
+pub present_counts : {E : Type 0} (xs : List (Option E)) → count_by is_some xs ≡ present xs
+present_counts xs = sym (length-filter is_some xs) ∙ kept xs

@@ -3,5 +3,4 @@
 
 pub mod fault;
 pub mod letters;
-pub mod order;
 pub mod percentile;

@@ -1,24 +1,19 @@
 // The percentile of the elements present among some days.
 ghost use Rattle.std.specs.Prelude.{◌≡◌, ◌≤◌, length};
 ghost use Rattle.ranking.specs.Counts.{present, share};
+ghost use Rattle.ranking.specs.Order.{upto};
 ghost use Rattle.ranking.specs.Percentile.{Percentile};
 ghost use Rattle.ranking.specs.Answer.{percentile_of};
 
 use crate::fault::NoDays;
-use crate::order::Ordered;
 
 // How many days have an element.
-fn count_present<E: Ordered>(days: &[Option<E>]) -> usize
+#[tactic(auto, using(crate::proofs::Tallies::present_counts))]
+fn count_present<E: Copy>(days: &[Option<E>]) -> usize
     ensures is { result ≡ present days.now }
     ensures bound { result ≤ length days.now }
 {
-    let mut n = 0;
-    for day in days {
-        if day.is_some() {
-            n += 1;
-        }
-    }
-    n
+    days.iter().filter(|day| day.is_some()).count()
 }
 
 // p percent of n, rounded up. The product p * n need not fit, so the hundreds of n go apart.
@@ -34,9 +29,9 @@ fn share_of(p: u8, n: usize) -> usize
 // The least element present such that at least `share_of(p, n)` of the n present do not come after
 // it; among equals, the earliest day's. A candidate is that one if it reaches so many and fewer
 // come before it.
-pub fn percentile<E: Ordered>(days: &[Option<E>], p: u8) -> Result<E, NoDays>
-    ensures is { result ≡ percentile_of E.upto days.now p }
-    ensures means { Percentile E.upto days.now p result }
+pub fn percentile<E: Ord + Copy>(days: &[Option<E>], p: u8) -> Result<E, NoDays>
+    ensures is { result ≡ percentile_of (upto E.cmp) days.now p }
+    ensures means { Percentile (upto E.cmp) days.now p result }
 {
     if p < 1 || 100 < p {
         return Err(NoDays);
@@ -47,20 +42,18 @@ pub fn percentile<E: Ordered>(days: &[Option<E>], p: u8) -> Result<E, NoDays>
     }
     let k = share_of(p, n);
     'answer: {
-        for d in 0..days.len() {
-            let day = days[d];
-            let Some(candidate) = day else {
+        for day in days {
+            let Some(candidate) = *day else {
                 continue;
             };
             let mut reached = 0;
             let mut before = 0;
-            for e in 0..days.len() {
-                let counted = days[e];
-                if let Some(other) = counted {
-                    if other.not_after(&candidate) {
+            for counted in days {
+                if let Some(other) = *counted {
+                    if other <= candidate {
                         reached += 1;
                     }
-                    if !candidate.not_after(&other) {
+                    if other < candidate {
                         before += 1;
                     }
                 }
