@@ -61,3 +61,6 @@ dollars_high z h = grind (arith, ints)
 
 pub quantity_low : (z : ℤ) → quantity_fits z ≡ true → pos 0 ≤ℤ z
 quantity_low z h = grind (arith, ints)
+
+pub quantity_high : (z : ℤ) → quantity_fits z ≡ true → z ≤ℤ pos 2000000000
+quantity_high z h = grind (arith, ints)

@@ -1,15 +1,13 @@
 -- Cross-multiplication orders fractions: a chain of two comparisons, each multiplied by the bottom that it
 -- lacks, gives the third with a factor above 0 on both sides, which goes out. Assumes nothing.
-use Rattle.std.specs.Prelude.{◌≡◌, ℕ, ◌*◌, ◌<◌, ◌≤◌, Bool, true, false, not, T, ◌⊎◌, nat_le}
-use Rattle.std.proofs.Common.{sym, ap, ◌∙◌, inl, inr, le_of_mul-le-mul_right, mul-le-mul_right, mul_comm, mul_assoc, arith, le→leb}
-use Rattle.std.proofs.Math.Dec.{nleb→lt}
-
-told : (b : Bool) → T b ⊎ T (not b)
-told true = inl tt
-told false = inr tt
-
-pub one_way : (a b : ℕ) → T (nat_le a b) ⊎ T (nat_le b a)
-one_way a b = elim (told (nat_le a b)) [ inl t ↦ inl t | inr n ↦ let h = nleb→lt a b n in inr (le→leb b a (omega arith)) ]
+use Rattle.std.specs.Prelude.{◌≡◌, ℕ, ◌*◌, ◌<◌, ◌≤◌}
+use Rattle.std.specs.declared.cmp.Ordering.TheVariants.{Less, Equal}
+use Rattle.std.specs.Cmp.{IsTotalOrder, nat_cmp_total}
+use Rattle.std.specs.Ordering.{nat_cmp, MatchOrdering}
+use Rattle.std.proofs.Common.{sym, ap, ◌∙◌, le_of_mul-le-mul_right, mul-le-mul_right, mul_comm, mul_assoc, arith}
+use Rattle.std.proofs.lemmas.Bool.Decides.{nat_tests}
+use Rattle.std.proofs.lemmas.Cmp.{ranked}
+use Rattle.factors.specs.Ratios.{crossed}
 
 -- the last two factors change places
 swapped : (a b c : ℕ) → (a * b) * c ≡ (a * c) * b
@@ -22,3 +20,38 @@ through a b c d e f proper h k =
     let q : (c * f) * b ≤ (e * d) * b = mul-le-mul_right b k in
     let r : (a * f) * d ≤ (e * b) * d = omega (arith, p, q, swapped c b f, swapped a f d, swapped e b d) in
     le_of_mul-le-mul_right r proper
+
+less : (a b : ℕ) → nat_cmp a b ≡ Less → a < b
+less a b e = let m : MatchOrdering Less (a < b) (a ≡ b) (b < a) = ranked a b Less (sym e) in m
+
+equal : (a b : ℕ) → nat_cmp a b ≡ Equal → a ≡ b
+equal a b e = let m : MatchOrdering Equal (a < b) (a ≡ b) (b < a) = ranked a b Equal (sym e) in m
+
+is_less : (a b : ℕ) → a < b → nat_cmp a b ≡ Less
+is_less a b h = grind (arith, nat_tests)
+
+below : (a b : ℕ) → (b ≤ a → ⊥) → a < b
+below a b h = grind arith
+
+-- numbers that are at most one another alike compare alike
+alike : (a b c d : ℕ) → (a ≤ b → c ≤ d) → (c ≤ d → a ≤ b) → (b ≤ a → d ≤ c) → (d ≤ c → b ≤ a) → nat_cmp a b ≡ nat_cmp c d
+alike a b c d f g h k = grind (arith, nat_tests)
+
+-- so cross-multiplication is a total order, whose equal fractions are equal values
+pub crossed_total : IsTotalOrder crossed
+crossed_total = record {
+  antisymm = λ x y. nat_cmp_total.antisymm (x.top * y.bottom) (y.top * x.bottom);
+  trans = λ x y z p q.
+      let h = less (x.top * y.bottom) (y.top * x.bottom) p in
+      let k = less (y.top * z.bottom) (z.top * y.bottom) q in
+      is_less _ _ (below _ _ (λ back. let u = through z.top z.bottom x.top x.bottom y.top y.bottom x.proper back (omega arith) in absurd (omega arith)));
+  congr = λ x y z p.
+      let e = equal (x.top * y.bottom) (y.top * x.bottom) p in
+      let xy : x.top * y.bottom ≤ y.top * x.bottom = omega arith in
+      let yx : y.top * x.bottom ≤ x.top * y.bottom = omega arith in
+      alike _ _ _ _
+      (λ h. through y.top y.bottom x.top x.bottom z.top z.bottom x.proper yx h)
+      (λ h. through x.top x.bottom y.top y.bottom z.top z.bottom y.proper xy h)
+      (λ h. through z.top z.bottom x.top x.bottom y.top y.bottom x.proper h xy)
+      (λ h. through z.top z.bottom y.top y.bottom x.top x.bottom y.proper h yx);
+}

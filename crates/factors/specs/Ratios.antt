@@ -1,5 +1,7 @@
 -- Exact fractions from 0 to 1: how they are made, ranked and rounded. Assumes nothing.
 use Rattle.std.specs.Prelude.{ℕ, ◌+◌, ◌*◌, ◌/◌, ◌≤◌, min, Bool, ℤ, pos, negsuc, nat_le}
+use Rattle.std.specs.declared.cmp.Ordering.{Ordering}
+use Rattle.std.specs.Ordering.{nat_cmp}
 use Rattle.std.proofs.Common.{arith}
 use Rattle.factors.specs.declared.ratio.Ratio.{Ratio}
 
@@ -33,6 +35,10 @@ ratio_zero = record { top = 0; bottom = 1; proper = omega arith; within = omega 
 -- whether x is at most y: by cross-multiplication, as neither bottom is 0
 abbrev pub not_above : Ratio → Ratio → Bool
 not_above x y = nat_le (x.top * y.bottom) (y.top * x.bottom)
+
+-- how x compares with y, likewise
+abbrev pub crossed : Ratio → Ratio → Ordering
+crossed x y = nat_cmp (x.top * y.bottom) (y.top * x.bottom)
 
 -- 100 x + 1/2, which is (200 top + bottom)/(2 bottom), rounded down
 abbrev pub in_hundredths : Ratio → ℕ

@@ -1,4 +1,5 @@
-// The figures of a day.
+// The figures of a day. The two types have the same fields and stay two, so that neither unit passes for
+// the other.
 
 // What was bid and offered on a day, in whole dollars.
 #[derive(Clone, Copy)]

@@ -11,15 +11,13 @@ use ranking::percentile::percentile;
 
 pub const MOST_DAYS: usize = 30;
 
-// The days' ratios, from the first place on.
-fn gathered<D: Rated>(days: &[D]) -> [Option<Ratio>; 30]
+// The days' ratios, from the first place on. No heap: the array has room for the most days.
+fn gathered<D: Rated>(days: &[D]) -> [Option<Ratio>; MOST_DAYS]
     requires { length days.now ≤ 30 }
-    ensures long { length result ≡ 30 }
-    ensures held { take (length days.now) result ≡ map D.rating days.now }
+    ensures { take (length days.now) result ≡ map D.rating days.now }
 {
-    let mut ratios = [None; 30];
-    for d in 0..days.len() {
-        let day = days[d];
+    let mut ratios = [None; MOST_DAYS];
+    for (d, day) in days.iter().enumerate() {
         ratios[d] = day.ratio();
     }
     ratios
@@ -33,10 +31,8 @@ fn factor<D: Rated>(days: &[D], p: u8) -> Result<u8, NoDays>
         return Err(NoDays);
     }
     let ratios = gathered(days);
-    match percentile(&ratios[..days.len()], p) {
-        Ok(ratio) => Ok(in_hundredths(ratio)),
-        Err(fault) => Err(fault),
-    }
+    let ratio = percentile(&ratios[..days.len()], p)?;
+    Ok(in_hundredths(ratio))
 }
 
 // The 95th percentile of the first ratio.

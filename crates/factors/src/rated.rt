@@ -4,7 +4,6 @@ ghost use Rattle.factors.specs.declared.ratio.Ratio.{Ratio};
 ghost use Rattle.factors.specs.Days.{first_ratio, second_ratio};
 
 use crate::days::{Dollars, Quantities};
-use crate::portion::{dollars_fit, first_of, quantity_fits, second_of};
 use crate::ratio::Ratio;
 
 pub(crate) trait Rated: Copy {
@@ -18,10 +17,10 @@ impl Rated for Dollars {
     ghost rating = { first_ratio };
 
     fn ratio(&self) -> Option<Ratio> {
-        if !dollars_fit(self.bids) || !dollars_fit(self.offers) {
+        if !self.fit() {
             return None;
         }
-        Some(first_of(self.bids, self.offers))
+        Some(self.first())
     }
 }
 
@@ -29,9 +28,9 @@ impl Rated for Quantities {
     ghost rating = { second_ratio };
 
     fn ratio(&self) -> Option<Ratio> {
-        if !quantity_fits(self.bids) || !quantity_fits(self.offers) {
+        if !self.fit() {
             return None;
         }
-        Some(second_of(self.bids, self.offers))
+        Some(self.second())
     }
 }
