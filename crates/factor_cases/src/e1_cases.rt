@@ -3,70 +3,60 @@ use factors::days::Dollars;
 use factors::factor::{default_e1, e3, favourable_e1};
 use ranking::fault::NoDays;
 
-// The factor, or 200 for the fault.
-fn hundredths(answer: Result<u8, NoDays>) -> u8 {
-    match answer {
-        Ok(factor) => factor,
-        Err(_) => 200,
-    }
-}
-
 // The factor over one day, which is the day's ratio in hundredths.
-fn of_day(bids: i64, offers: i64) -> u8 {
-    hundredths(default_e1(&[Dollars { bids, offers }]))
+fn of_day(bids: i64, offers: i64) -> Result<u8, NoDays> {
+    default_e1(&[Dollars { bids, offers }])
 }
 
 // 2/3 is 66.67 hundredths; 199/200 is 99.5, which goes up; 1/200 is 0.5; 1/201 is 0.4975.
 #[test]
 fn rounding_goes_up_at_halves(rt: HostRuntime) {
-    assert_eq!(rt; of_day(3, 1), 67);
-    assert_eq!(rt; of_day(200, 1), 100);
-    assert_eq!(rt; of_day(200, 199), 1);
-    assert_eq!(rt; of_day(201, 200), 0);
+    assert_eq!(rt; of_day(3, 1), Ok(67));
+    assert_eq!(rt; of_day(200, 1), Ok(100));
+    assert_eq!(rt; of_day(200, 199), Ok(1));
+    assert_eq!(rt; of_day(201, 200), Ok(0));
 }
 
 // (-1000 + 250)/-1000 is 750/1000.
 #[test]
 fn bids_below_zero(rt: HostRuntime) {
-    assert_eq!(rt; of_day(-1000, -250), 75);
+    assert_eq!(rt; of_day(-1000, -250), Ok(75));
     // (-100 - 50)/-100 is 1.5, and (-100 + 150)/-100 is -0.5.
-    assert_eq!(rt; of_day(-100, 50), 100);
-    assert_eq!(rt; of_day(-100, -150), 0);
+    assert_eq!(rt; of_day(-100, 50), Ok(100));
+    assert_eq!(rt; of_day(-100, -150), Ok(0));
 }
 
 // (100 - 150)/100 is -0.5, and (100 + 1)/100 is 1.01.
 #[test]
 fn brought_into_zero_to_one(rt: HostRuntime) {
-    assert_eq!(rt; of_day(100, 150), 0);
-    assert_eq!(rt; of_day(100, -1), 100);
-    assert_eq!(rt; of_day(100, 100), 0);
-    assert_eq!(rt; of_day(100, 0), 100);
+    assert_eq!(rt; of_day(100, 150), Ok(0));
+    assert_eq!(rt; of_day(100, -1), Ok(100));
+    assert_eq!(rt; of_day(100, 100), Ok(0));
+    assert_eq!(rt; of_day(100, 0), Ok(100));
 }
 
 #[test]
 fn no_bids_give_one(rt: HostRuntime) {
-    assert_eq!(rt; of_day(0, 0), 100);
-    assert_eq!(rt; of_day(0, 2_000_000_000), 100);
-    assert_eq!(rt; of_day(0, 2_000_000_001), 200);
+    assert_eq!(rt; of_day(0, 0), Ok(100));
+    assert_eq!(rt; of_day(0, 2_000_000_000), Ok(100));
+    assert_eq!(rt; of_day(0, 2_000_000_001), Err(NoDays));
 }
 
 // 4,000,000,000/2,000,000,000 is brought to 1.
 #[test]
 fn figures_out_of_range_are_absent(rt: HostRuntime) {
-    assert_eq!(rt; of_day(2_000_000_000, -2_000_000_000), 100);
-    assert_eq!(rt; of_day(-2_000_000_000, 2_000_000_000), 100);
-    assert_eq!(rt; of_day(2_000_000_001, 0), 200);
-    assert_eq!(rt; of_day(-2_000_000_001, 0), 200);
-    assert_eq!(rt; of_day(1, -2_000_000_001), 200);
+    assert_eq!(rt; of_day(2_000_000_000, -2_000_000_000), Ok(100));
+    assert_eq!(rt; of_day(-2_000_000_000, 2_000_000_000), Ok(100));
+    assert_eq!(rt; of_day(2_000_000_001, 0), Err(NoDays));
+    assert_eq!(rt; of_day(-2_000_000_001, 0), Err(NoDays));
+    assert_eq!(rt; of_day(1, -2_000_000_001), Err(NoDays));
 }
 
 // The ratios 1/n to n/n of n days, on the last day the least.
 fn descend(days: &mut [Dollars]) {
     let bids = days.len() as i64;
-    let mut offers: i64 = 0;
-    for day in days.iter_mut() {
+    for (day, offers) in days.iter_mut().zip(0..bids) {
         *day = Dollars { bids, offers };
-        offers = offers.wrapping_add(1);
     }
 }
 
@@ -77,8 +67,8 @@ const BLANK: Dollars = Dollars { bids: 0, offers: 0 };
 fn twenty_days(rt: HostRuntime) {
     let mut days = [BLANK; 20];
     descend(&mut days);
-    assert_eq!(rt; hundredths(default_e1(&days)), 95);
-    assert_eq!(rt; hundredths(favourable_e1(&days)), 75);
+    assert_eq!(rt; default_e1(&days), Ok(95));
+    assert_eq!(rt; favourable_e1(&days), Ok(75));
 }
 
 // 30 days: 95 percent is 28.5, so 29; 29/30 is 96.67. 75 percent is 22.5, so 23; 23/30 is 76.67.
@@ -86,17 +76,17 @@ fn twenty_days(rt: HostRuntime) {
 fn thirty_days(rt: HostRuntime) {
     let mut days = [BLANK; 30];
     descend(&mut days);
-    assert_eq!(rt; hundredths(default_e1(&days)), 97);
-    assert_eq!(rt; hundredths(favourable_e1(&days)), 77);
+    assert_eq!(rt; default_e1(&days), Ok(97));
+    assert_eq!(rt; favourable_e1(&days), Ok(77));
 }
 
 #[test]
 fn another_count_is_no_days(rt: HostRuntime) {
     let days = [BLANK; 31];
-    assert_eq!(rt; hundredths(default_e1(&days)), 200);
-    assert_eq!(rt; hundredths(favourable_e1(&days)), 200);
-    assert_eq!(rt; hundredths(default_e1(&days[..30])), 100);
-    assert_eq!(rt; hundredths(default_e1(&days[..0])), 200);
+    assert_eq!(rt; default_e1(&days), Err(NoDays));
+    assert_eq!(rt; favourable_e1(&days), Err(NoDays));
+    assert_eq!(rt; default_e1(&days[..30]), Ok(100));
+    assert_eq!(rt; default_e1(&days[..0]), Err(NoDays));
 }
 
 // One ratio is left, 2/3.
@@ -107,10 +97,10 @@ fn absent_days_are_skipped(rt: HostRuntime) {
         offers: 3_000_000_000,
     };
     assert_eq!(rt;
-        hundredths(favourable_e1(&[far, Dollars { bids: 3, offers: 1 }, far])),
-        67
+        favourable_e1(&[far, Dollars { bids: 3, offers: 1 }, far]),
+        Ok(67)
     );
-    assert_eq!(rt; hundredths(favourable_e1(&[far, far])), 200);
+    assert_eq!(rt; favourable_e1(&[far, far]), Err(NoDays));
 }
 
 #[test]

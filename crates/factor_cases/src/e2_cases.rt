@@ -3,41 +3,33 @@ use factors::days::Quantities;
 use factors::factor::{default_e2, favourable_e2};
 use ranking::fault::NoDays;
 
-// The factor, or 200 for the fault.
-fn hundredths(answer: Result<u8, NoDays>) -> u8 {
-    match answer {
-        Ok(factor) => factor,
-        Err(_) => 200,
-    }
-}
-
 // The factor over one day, which is the day's ratio in hundredths.
-fn of_day(bids: i64, offers: i64) -> u8 {
-    hundredths(favourable_e2(&[Quantities { bids, offers }]))
+fn of_day(bids: i64, offers: i64) -> Result<u8, NoDays> {
+    favourable_e2(&[Quantities { bids, offers }])
 }
 
 // 5/8 is 62.5 hundredths, which goes up; 1/3 is 33.33; 9/8 counts as 8/8.
 #[test]
 fn lesser_over_offers(rt: HostRuntime) {
-    assert_eq!(rt; of_day(5, 8), 63);
-    assert_eq!(rt; of_day(1, 3), 33);
-    assert_eq!(rt; of_day(9, 8), 100);
-    assert_eq!(rt; of_day(0, 8), 0);
+    assert_eq!(rt; of_day(5, 8), Ok(63));
+    assert_eq!(rt; of_day(1, 3), Ok(33));
+    assert_eq!(rt; of_day(9, 8), Ok(100));
+    assert_eq!(rt; of_day(0, 8), Ok(0));
 }
 
 #[test]
 fn no_offers_give_zero(rt: HostRuntime) {
-    assert_eq!(rt; of_day(5, 0), 0);
-    assert_eq!(rt; of_day(0, 0), 0);
+    assert_eq!(rt; of_day(5, 0), Ok(0));
+    assert_eq!(rt; of_day(0, 0), Ok(0));
 }
 
 #[test]
 fn figures_out_of_range_are_absent(rt: HostRuntime) {
-    assert_eq!(rt; of_day(2_000_000_000, 2_000_000_000), 100);
-    assert_eq!(rt; of_day(2_000_000_001, 5), 200);
-    assert_eq!(rt; of_day(5, 2_000_000_001), 200);
-    assert_eq!(rt; of_day(-1, 5), 200);
-    assert_eq!(rt; of_day(5, -1), 200);
+    assert_eq!(rt; of_day(2_000_000_000, 2_000_000_000), Ok(100));
+    assert_eq!(rt; of_day(2_000_000_001, 5), Err(NoDays));
+    assert_eq!(rt; of_day(5, 2_000_000_001), Err(NoDays));
+    assert_eq!(rt; of_day(-1, 5), Err(NoDays));
+    assert_eq!(rt; of_day(5, -1), Err(NoDays));
 }
 
 // 5 days: 25 percent is 1.25, so 2. The ratios in order are 1/10, 3/10, 4/10, 8/10, 1: the second is 3/10.
@@ -65,17 +57,17 @@ fn twenty_fifth_of_five(rt: HostRuntime) {
             offers: 10,
         },
     ];
-    assert_eq!(rt; hundredths(favourable_e2(&days)), 30);
+    assert_eq!(rt; favourable_e2(&days), Ok(30));
     // 4 days: 25 percent is 1, so the least, 1/10.
-    assert_eq!(rt; hundredths(favourable_e2(&days[..4])), 10);
+    assert_eq!(rt; favourable_e2(&days[..4]), Ok(10));
 }
 
 #[test]
 fn another_count_is_no_days(rt: HostRuntime) {
     let days = [Quantities { bids: 1, offers: 1 }; 31];
-    assert_eq!(rt; hundredths(favourable_e2(&days)), 200);
-    assert_eq!(rt; hundredths(favourable_e2(&days[..30])), 100);
-    assert_eq!(rt; hundredths(favourable_e2(&days[..0])), 200);
+    assert_eq!(rt; favourable_e2(&days), Err(NoDays));
+    assert_eq!(rt; favourable_e2(&days[..30]), Ok(100));
+    assert_eq!(rt; favourable_e2(&days[..0]), Err(NoDays));
 }
 
 #[test]

@@ -3,20 +3,9 @@ use crate::tagged::Tagged;
 use ranking::fault::NoDays;
 use ranking::percentile::percentile;
 
-// The day of the answer, or 200 for the fault.
-fn day_of(answer: Result<Tagged, NoDays>) -> u8 {
-    match answer {
-        Ok(element) => element.day,
-        Err(_) => 200,
-    }
-}
-
-// The price that answers, or -1 for the fault.
-fn price_of(answer: Result<i32, NoDays>) -> i32 {
-    match answer {
-        Ok(price) => price,
-        Err(_) => -1,
-    }
+// The day of the answer.
+fn day_of(answer: Result<Tagged, NoDays>) -> Result<u8, NoDays> {
+    answer.map(|element| element.day)
 }
 
 const fn of(price: i32, day: u8) -> Option<Tagged> {
@@ -60,15 +49,15 @@ const THIRTY: [Option<i32>; 30] = [
 // 30 elements: 85 percent is 25.5, so 26 do not come after the answer.
 #[test]
 fn eighty_fifth_of_thirty(rt: HostRuntime) {
-    assert_eq!(rt; price_of(percentile(&THIRTY, 85)), 26);
+    assert_eq!(rt; percentile(&THIRTY, 85), Ok(26));
 }
 
 // 30 elements: 1 percent is 0.3, so 1; 50 percent is 15; 100 percent is 30.
 #[test]
 fn ends_and_middle_of_thirty(rt: HostRuntime) {
-    assert_eq!(rt; price_of(percentile(&THIRTY, 1)), 1);
-    assert_eq!(rt; price_of(percentile(&THIRTY, 50)), 15);
-    assert_eq!(rt; price_of(percentile(&THIRTY, 100)), 30);
+    assert_eq!(rt; percentile(&THIRTY, 1), Ok(1));
+    assert_eq!(rt; percentile(&THIRTY, 50), Ok(15));
+    assert_eq!(rt; percentile(&THIRTY, 100), Ok(30));
 }
 
 // 5 elements: 50 percent is 2.5, so 3. Prices in order are -4, 7, 7, 7, 9: the third is 7, which days
@@ -76,59 +65,57 @@ fn ends_and_middle_of_thirty(rt: HostRuntime) {
 #[test]
 fn earliest_of_equals(rt: HostRuntime) {
     let days = [of(9, 0), of(7, 1), of(7, 2), of(-4, 3), of(7, 4)];
-    assert_eq!(rt; day_of(percentile(&days, 50)), 1);
+    assert_eq!(rt; day_of(percentile(&days, 50)), Ok(1));
     // 40 percent is 2 and 80 percent is 4: the second and the fourth are 7 as well.
-    assert_eq!(rt; day_of(percentile(&days, 40)), 1);
-    assert_eq!(rt; day_of(percentile(&days, 80)), 1);
+    assert_eq!(rt; day_of(percentile(&days, 40)), Ok(1));
+    assert_eq!(rt; day_of(percentile(&days, 80)), Ok(1));
     // 81 percent is 4.05, so 5; 20 percent is 1.
-    assert_eq!(rt; day_of(percentile(&days, 81)), 0);
-    assert_eq!(rt; day_of(percentile(&days, 20)), 3);
+    assert_eq!(rt; day_of(percentile(&days, 81)), Ok(0));
+    assert_eq!(rt; day_of(percentile(&days, 20)), Ok(3));
 }
 
 // 3 elements on 6 days: 50 percent is 1.5, so 2. Prices in order are 1, 5, 8.
 #[test]
 fn absent_days_are_skipped(rt: HostRuntime) {
     let days = [None, of(8, 1), None, of(1, 3), of(5, 4), None];
-    assert_eq!(rt; day_of(percentile(&days, 50)), 4);
+    assert_eq!(rt; day_of(percentile(&days, 50)), Ok(4));
     // 33 percent is 0.99, so 1; 34 percent is 1.02, so 2; 67 percent is 2.01, so 3.
-    assert_eq!(rt; day_of(percentile(&days, 33)), 3);
-    assert_eq!(rt; day_of(percentile(&days, 34)), 4);
-    assert_eq!(rt; day_of(percentile(&days, 67)), 1);
+    assert_eq!(rt; day_of(percentile(&days, 33)), Ok(3));
+    assert_eq!(rt; day_of(percentile(&days, 34)), Ok(4));
+    assert_eq!(rt; day_of(percentile(&days, 67)), Ok(1));
 }
 
 #[test]
 fn no_days(rt: HostRuntime) {
     let absent: [Option<Tagged>; 2] = [None, None];
-    assert_eq!(rt; day_of(percentile(&absent, 50)), 200);
-    assert_eq!(rt; day_of(percentile(&absent[..0], 50)), 200);
+    assert_eq!(rt; day_of(percentile(&absent, 50)), Err(NoDays));
+    assert_eq!(rt; day_of(percentile(&absent[..0], 50)), Err(NoDays));
     assert_eq!(rt; NoDays.number(), 15);
 }
 
 #[test]
 fn percents_outside_one_to_hundred(rt: HostRuntime) {
     let days = [of(8, 0), of(3, 1)];
-    assert_eq!(rt; day_of(percentile(&days, 0)), 200);
-    assert_eq!(rt; day_of(percentile(&days, 101)), 200);
+    assert_eq!(rt; day_of(percentile(&days, 0)), Err(NoDays));
+    assert_eq!(rt; day_of(percentile(&days, 101)), Err(NoDays));
     // 2 elements: 1 percent is 0.02, so 1; 50 percent is 1; 51 percent is 1.02, so 2.
-    assert_eq!(rt; day_of(percentile(&days, 1)), 1);
-    assert_eq!(rt; day_of(percentile(&days, 50)), 1);
-    assert_eq!(rt; day_of(percentile(&days, 51)), 0);
-    assert_eq!(rt; day_of(percentile(&days, 100)), 0);
+    assert_eq!(rt; day_of(percentile(&days, 1)), Ok(1));
+    assert_eq!(rt; day_of(percentile(&days, 50)), Ok(1));
+    assert_eq!(rt; day_of(percentile(&days, 51)), Ok(0));
+    assert_eq!(rt; day_of(percentile(&days, 100)), Ok(0));
 }
 
 #[test]
 fn single_element_answers_always(rt: HostRuntime) {
     let days = [None, of(-6, 1)];
-    assert_eq!(rt; day_of(percentile(&days, 1)), 1);
-    assert_eq!(rt; day_of(percentile(&days, 100)), 1);
+    assert_eq!(rt; day_of(percentile(&days, 1)), Ok(1));
+    assert_eq!(rt; day_of(percentile(&days, 100)), Ok(1));
 }
 
 // The prices 0 to 9 in order, again and again.
 fn repeat_prices(days: &mut [Option<Tagged>]) {
-    let mut day: u8 = 0;
-    for slot in days.iter_mut() {
+    for (slot, day) in days.iter_mut().zip(0..=u8::MAX) {
         *slot = of((day % 10) as i32, day);
-        day = day.wrapping_add(1);
     }
 }
 
@@ -138,8 +125,8 @@ fn repeat_prices(days: &mut [Option<Tagged>]) {
 fn more_than_thirty_days(rt: HostRuntime) {
     let mut days = [None; 250];
     repeat_prices(&mut days);
-    assert_eq!(rt; day_of(percentile(&days, 45)), 4);
+    assert_eq!(rt; day_of(percentile(&days, 45)), Ok(4));
     // 40 percent is 100: price 3. 41 percent is 102.5, so 103: price 4.
-    assert_eq!(rt; day_of(percentile(&days, 40)), 3);
-    assert_eq!(rt; day_of(percentile(&days, 41)), 4);
+    assert_eq!(rt; day_of(percentile(&days, 40)), Ok(3));
+    assert_eq!(rt; day_of(percentile(&days, 41)), Ok(4));
 }
