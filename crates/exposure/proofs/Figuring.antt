@@ -1,13 +1,16 @@
 -- Thirty answers of a record are its days where the point is known, and else each is its fault; so the
 -- percentile of what was gathered is the figure.
-use Rattle.std.proofs.Common.{◌≡◌, ℕ, ◌+◌, ◌<◌, cond, ◌≢◌, List, length, get_or, set, ℤ, None, Ok, Err, Option, Result, sym, ap, ◌∙◌, arith, length-set, get_or-set_other, get_or-set_same, below_more}
+use Rattle.std.proofs.Common.{◌≡◌, ℕ, ◌+◌, ◌<◌, Bool, cond, ◌≢◌, List, length, get_or, set, ℤ, None, Ok, Err, Option, Result, sym, ap, ◌∙◌, arith, length-set, get_or-set_other, get_or-set_same, below_more}
 use lib.Signed.{le_z}
+use Rattle.std.proofs.lemmas.Int.{ints}
 use Rattle.std.proofs.lemmas.List.FromFn.{fill_by_all}
+use Rattle.std.specs.Ordering.{is_le, int_cmp}
 use Rattle.market.specs.Bounds.{Bounded}
 use Rattle.prices.specs.declared.fault.RecordFault.{RecordFault}
 use Rattle.prices.specs.Entries.{Entry, known, unknown, on_calendar, answer, Ranged}
 use Rattle.ranking.specs.declared.fault.NoDays.{NoDays as Nothing}
 use Rattle.ranking.specs.Answer.{percentile_of}
+use Rattle.ranking.specs.Order.{upto}
 use Rattle.exposure.specs.declared.fault.RuleFault.TheVariants.{UnknownPoint}
 use Rattle.exposure.specs.FigureBounds.{InRange, percentile_within}
 use Rattle.exposure.specs.Figures.{days_of, gathered, ranked, figure_at}
@@ -42,17 +45,24 @@ pub told_fault : (e : Entry) (h d : ℕ) (f : RecordFault) → Err f ≡ answer 
 told_fault (known v) h d f is = let z : ◌≡◌ {A = ℕ} 0 1 = cc in absurd (omega arith)
 told_fault (unknown l q) h d f is = let same : f ≡ record { label = l; point = q; hour = h } = cc in ap Err same
 
+at_most : (x y : ℤ) → is_le (int_cmp x y) ≡ le_z x y
+at_most x y = grind (arith, ints)
+
+-- prices rank as their numbers do
+pub as_numbers : ◌≡◌ {A = ℤ → ℤ → Bool} (upto int_cmp) le_z
+as_numbers i x y = at_most x y i
+
 module _ (letter percent point : ℕ) where
   pub figure_fault : (e : Entry) (h : ℕ) (f : RecordFault) → Err f ≡ gathered e h → Err (UnknownPoint f) ≡ figure_at e letter percent point h
   unfolding figure_at
   figure_fault (known v) h f is = let z : ◌≡◌ {A = ℕ} 0 1 = cc in absurd (omega arith)
   figure_fault (unknown l q) h f is = let same : f ≡ record { label = l; point = q; hour = h } = cc in ap (λ (x : RecordFault). Err (UnknownPoint x)) same
 
-  pub figure_ranked : (e : Entry) (h : ℕ) (days : List (Option ℤ)) (r : Result ℤ Nothing) → Ok days ≡ gathered e h → r ≡ percentile_of le_z days percent → ranked letter point h r ≡ figure_at e letter percent point h
+  pub figure_ranked : (e : Entry) (h : ℕ) (days : List (Option ℤ)) (r : Result ℤ Nothing) → Ok days ≡ gathered e h → r ≡ percentile_of (upto int_cmp) days percent → ranked letter point h r ≡ figure_at e letter percent point h
   unfolding figure_at
   figure_ranked (known v) h days r is ranks =
       let same : days ≡ days_of v h = ok_same {B = RecordFault} is in
-      ap (ranked letter point h) (ranks ∙ ap (λ (xs : List (Option ℤ)). percentile_of le_z xs percent) same)
+      ap (ranked letter point h) (ranks ∙ (λ i. percentile_of (as_numbers i) (same i) percent))
   figure_ranked (unknown l q) h days r is ranks = let z : ◌≡◌ {A = ℕ} 0 1 = cc in absurd (omega arith)
 
 in_ok : (r : Result ℤ Nothing) (x : ℤ) → Ok x ≡ r → InRange r → Bounded 4000000 x
@@ -60,8 +70,8 @@ in_ok (Ok y) x e b = let k : x ≡ y = cc in let low = b.low in let high = b.hig
 in_ok (Err f) x e b = let z : ◌≡◌ {A = ℕ} 0 1 = cc in absurd (omega arith)
 
 -- a percentile of what was gathered is in a record's range
-pub figure_in : (e : Entry) → Ranged e → (h percent : ℕ) (days : List (Option ℤ)) (x : ℤ) → Ok days ≡ gathered e h → Ok x ≡ percentile_of le_z days percent → Bounded 4000000 x
+pub figure_in : (e : Entry) → Ranged e → (h percent : ℕ) (days : List (Option ℤ)) (x : ℤ) → Ok days ≡ gathered e h → Ok x ≡ percentile_of (upto int_cmp) days percent → Bounded 4000000 x
 figure_in (known v) ranged h percent days x is ranks =
     let same : days ≡ days_of v h = ok_same {B = RecordFault} is in
-    in_ok (percentile_of le_z (days_of v h) percent) x (ranks ∙ ap (λ (xs : List (Option ℤ)). percentile_of le_z xs percent) same) (percentile_within v h percent ranged)
+    in_ok (percentile_of le_z (days_of v h) percent) x (ranks ∙ (λ i. percentile_of (as_numbers i) (same i) percent)) (percentile_within v h percent ranged)
 figure_in (unknown l q) ranged h percent days x is ranks = let z : ◌≡◌ {A = ℕ} 0 1 = cc in absurd (omega arith)
