@@ -1,11 +1,11 @@
 -- A bid's step, and one more of a greatest.
-use Rattle.std.proofs.Common.{◌≡◌, ℕ, ◌+◌, ◌<◌, ◌≤◌, true, false, cond, List, length, get_or, drop, ℤ, pos, ◌+ℤ◌, ◌-ℤ◌, ◌*ℤ◌, sym, ap, ◌∙◌}
+use Rattle.std.proofs.Common.{◌≡◌, ℕ, ◌+◌, ◌<◌, ◌≤◌, true, false, cond, List, length, get_or, drop, ℤ, pos, ◌+ℤ◌, ◌-ℤ◌, ◌*ℤ◌, sym, refl, ap, ◌∙◌}
 use lib.IntN.{+ℤ_idr}
-use lib.Signed.{lt_z}
-use Rattle.std.specs.Int.{int_max}
+use lib.Signed.{le_z, lt_z}
+use Rattle.std.specs.Int.{int_max, int_min}
 use Rattle.std.proofs.lemmas.List.{at_drop_more, at_drop_all}
 use Rattle.market.specs.declared.step.Step.{Step}
-use Rattle.formulas.specs.Kinds.{at_price, greatest, grains, path_step}
+use Rattle.formulas.specs.Kinds.{at_price, bid_step, greatest, grains, path_step}
 
 pub at_price_is : (e q : ℕ) (a p a' x w₁ w₂ t m m' r : ℤ)
     → w₁ ≡ pos 100 *ℤ a' → w₂ ≡ pos e *ℤ x → m ≡ int_max t (pos 0) → r ≡ m' *ℤ pos q
@@ -42,3 +42,6 @@ path_free w c s x m m' paid r p₁ p₂ t q₁ q₂ q₃ =
     let inner : x ≡ int_max s.price (pos 0) +ℤ w = q₂ ∙ ap (λ z. z +ℤ w) (p₂ ∙ ap (λ z. int_max z (pos 0)) q₁) in
     let whole : paid ≡ grains 100 (int_max s.price (pos 0) +ℤ w) s.quantity = p₁ ∙ ap (λ z. grains 100 z s.quantity) inner in
     q₃ ∙ whole ∙ sym (+ℤ_idr (grains 100 (int_max s.price (pos 0) +ℤ w) s.quantity)) ∙ sym (ap (λ b. grains 100 (int_max s.price (pos 0) +ℤ w) s.quantity -ℤ cond b (grains 90 s.price c) (pos 0)) t)
+
+pub bid_taken : (e : ℕ) (d : ℤ) (s : Step) → le_z s.price (pos 0) ≡ false → bid_step e d s ≡ at_price e (int_min d s.price) s.price s.quantity
+bid_taken e d s t = rw t refl

@@ -4,19 +4,20 @@ ghost use Rattle.market.specs.Bounds.{Bounded};
 ghost use Rattle.market.specs.Orders.{Orderly};
 ghost use Rattle.formulas.specs.Kinds.{over_blocks, offer_block, three_part_block, credit};
 
+use crate::block::Block;
 use crate::factors::Factors;
 use crate::figure::Figure;
 use crate::grains::in_grains;
 use market::step::Step;
 
-// What a block adds to the exposure of an offer.
+// What a block adds to the exposure of an offer. A trait, since a closure would leave the function that it
+// computes, and that function's bound, to the clauses of `over_blocks` and of each closure.
 pub(crate) trait Terms {
     ghost adds: { Self → ℤ → ℕ → ℤ };
 
-    fn block(&self, price: i32, tenths: u32) -> i64
-        requires { tenths ≤ 100000 }
-        ensures value { result ≡ adds self.now price tenths }
-        ensures size { Bounded (1000000000 * tenths) result };
+    fn add(&self, block: Block) -> i64
+        ensures value { result ≡ adds self.now block.price block.tenths }
+        ensures size { Bounded (1000000000 * block.tenths) result };
 }
 
 #[derive(Clone, Copy)]
@@ -33,28 +34,30 @@ pub(crate) struct ThreePart {
     pub(crate) z: Figure,
 }
 
-// A credit at a price above 0, and a charge at one below.
-fn credited(e2: u8, b: i32, tenths: u32) -> i64
-    requires { (e2 ≤ 100) × ((Bounded 4000000 b) × (tenths ≤ 100000)) }
-    ensures value { result ≡ credit e2 b tenths }
-    ensures size { Bounded (500000000 * tenths) result }
-{
-    if b > 0 {
-        -in_grains(e2, b, tenths)
-    } else if b < 0 {
-        -in_grains(100, b, tenths)
-    } else {
-        0
+impl EnergyOnly {
+    // A credit at a price above 0, and a charge at one below.
+    fn credited(&self, block: Block) -> i64
+        ensures value { result ≡ credit self.now.factors.e2 self.now.b.cents block.tenths }
+        ensures size { Bounded (500000000 * block.tenths) result }
+    {
+        let b = self.b.cents;
+        if b > 0 {
+            -in_grains(self.factors.e2, b, block.tenths)
+        } else if b < 0 {
+            -in_grains(100, b, block.tenths)
+        } else {
+            0
+        }
     }
 }
 
 impl Terms for EnergyOnly {
     ghost adds = { λ t p m. offer_block t.factors.e2 t.factors.e3 t.a.cents t.b.cents t.s.cents p m };
 
-    fn block(&self, price: i32, tenths: u32) -> i64 {
-        let held = in_grains(self.factors.e3, self.s.cents, tenths);
-        if price <= self.a.cents {
-            held + credited(self.factors.e2, self.b.cents, tenths)
+    fn add(&self, block: Block) -> i64 {
+        let held = in_grains(self.factors.e3, self.s.cents, block.tenths);
+        if block.price <= self.a.cents {
+            held + self.credited(block)
         } else {
             held
         }
@@ -64,9 +67,9 @@ impl Terms for EnergyOnly {
 impl Terms for ThreePart {
     ghost adds = { λ t p m. three_part_block t.y.cents t.z.cents p m };
 
-    fn block(&self, price: i32, tenths: u32) -> i64 {
-        if price <= self.y.cents {
-            -in_grains(100, self.z.cents, tenths)
+    fn add(&self, block: Block) -> i64 {
+        if block.price <= self.y.cents {
+            -in_grains(100, self.z.cents, block.tenths)
         } else {
             0
         }
@@ -81,7 +84,10 @@ pub(crate) fn over_blocks<B: Terms>(terms: &B, steps: &[Step]) -> i64
     let mut sum = 0;
     let mut before = 0;
     for step in steps {
-        sum += terms.block(step.price, step.quantity - before);
+        sum += terms.add(Block {
+            price: step.price,
+            tenths: step.quantity - before,
+        });
         before = step.quantity;
     }
     sum

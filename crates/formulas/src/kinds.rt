@@ -3,7 +3,7 @@ ghost use Rattle.std.specs.Prelude.{◌≡◌, ◌≤◌, IfSome, if◌then◌el
 ghost use Rattle.market.specs.Bounds.{Bounded};
 ghost use Rattle.market.specs.Orders.{Fit};
 ghost use Rattle.market.specs.Reading.{steps_of, last_of};
-ghost use Rattle.formulas.specs.Kinds.{at_price, bid_step, energy_bid, Greatest, energy_only_offer, three_part_offer, path_step};
+ghost use Rattle.formulas.specs.Kinds.{bid_step, energy_bid, Greatest, energy_only_offer, three_part_offer, path_step};
 
 use crate::blocks::{EnergyOnly, ThreePart, over_blocks};
 use crate::factors::Factors;
@@ -13,24 +13,18 @@ use market::curve::Curve;
 use market::step::Step;
 use market::units::Tenths;
 
-fn at_price(e1: u8, a: i32, price: i32, quantity: u32) -> i64
-    requires { (e1 ≤ 100) × ((Bounded 4000000 a) × ((Bounded 1000000 price) × (quantity ≤ 100000))) }
-    ensures value { result ≡ at_price e1 a price quantity }
-    ensures size { Bounded 100000000000000 result }
-{
-    let rate = weighted(100, a) + weighted(e1, price - a);
-    of_tenths(rate.max(0), quantity)
-}
-
-fn bid_step(e1: u8, d: i32, step: Step) -> i64
-    requires { (e1 ≤ 100) × ((Bounded 4000000 d) × (Fit 0 step)) }
-    ensures value { result ≡ bid_step e1 d step }
+// What a step of an energy bid gives: nothing where its price is not above 0.
+fn bid_step(factors: Factors, d: Figure, step: Step) -> i64
+    requires { Fit 0 step }
+    ensures value { result ≡ bid_step factors.e1 d.cents step }
     ensures size { Bounded 100000000000000 result }
 {
     if step.price <= 0 {
         return 0;
     }
-    at_price(e1, d.min(step.price), step.price, step.quantity)
+    let lesser = d.cents.min(step.price);
+    let rate = weighted(100, lesser) + weighted(factors.e1, step.price - lesser);
+    of_tenths(rate.max(0), step.quantity)
 }
 
 // An energy bid, with d the figure of the day-ahead price.
@@ -42,7 +36,7 @@ pub fn energy_bid(curve: &Curve, factors: Factors, d: Figure) -> i64
     let steps = curve.steps();
     let mut top: i64 = 0;
     for step in steps {
-        top = top.max(bid_step(factors.e1, d.cents, *step));
+        top = top.max(bid_step(factors, d, *step));
     }
     top
 }
@@ -63,12 +57,13 @@ pub fn three_part_offer(curve: &Curve, y: Figure, z: Figure) -> i64
     over_blocks(&ThreePart { y, z }, curve.steps())
 }
 
-fn path_step(step: Step, w: i32, cover: u32) -> i64
-    requires { (Fit 0 step) × ((Bounded 4000000 w) × (cover ≤ step.quantity)) }
-    ensures value { result ≡ path_step w cover step }
+fn path_step(step: Step, w: Figure, cover: Tenths) -> i64
+    requires fit { Fit 0 step }
+    requires covered { cover ≤ step.quantity }
+    ensures value { result ≡ path_step w.cents cover step }
     ensures size { Bounded 100000000000000 result }
 {
-    let paid = in_grains(100, step.price.max(0) + w, step.quantity);
+    let paid = in_grains(100, step.price.max(0) + w.cents, step.quantity);
     if step.price > 0 {
         paid - in_grains(90, step.price, cover)
     } else {
@@ -85,5 +80,5 @@ pub fn point_to_point(curve: &Curve, w: Figure, cover: Tenths) -> Option<i64>
     if cover > step.quantity {
         return None;
     }
-    Some(path_step(step, w.cents, cover))
+    Some(path_step(step, w, cover))
 }

@@ -12,13 +12,7 @@ impl Factors {
     pub fn make(e1: u8, e2: u8, e3: u8) -> Result<Factors, Refusal>
         ensures { result ≡ factors_of e1 e2 e3 }
     {
-        if e1 > MOST_FACTOR {
-            return Err(Refusal::OutOfRange);
-        }
-        if e2 > MOST_FACTOR {
-            return Err(Refusal::OutOfRange);
-        }
-        if e3 > MOST_FACTOR {
+        if e1.max(e2).max(e3) > MOST_FACTOR {
             return Err(Refusal::OutOfRange);
         }
         Ok(Factors { e1, e2, e3 })

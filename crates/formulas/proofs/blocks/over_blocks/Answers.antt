@@ -10,8 +10,8 @@ overflow_sub-step g c =
     let fit = (orderly_more c.loop-step.before c.args.steps.now c.loop-step.step-index d c.loop-step-test.true c.loop-step.invariant.2).0 in
     omega (arith, fit.above)
 
-pub block-sum-requires : goal.block-sum-requires
-block-sum-requires g c =
+pub invariant_of-add : goal.invariant_of-add
+invariant_of-add g c =
     let d : Step = record { quantity = 0; price = pos 0 } in
     let fit = (orderly_more c.loop-step.before c.args.steps.now c.loop-step.step-index d c.loop-step-test.true c.loop-step.invariant.2).0 in
     omega (arith, fit.most)
@@ -26,7 +26,7 @@ loop-step-preserved g c =
     let low = fit.low in let high = fit.high in let most = fit.most in let above = fit.above in
     let e : to_z w32 (of_z w32 (get_or xs i d).price) ≡ (get_or xs i d).price = omega (arith, ints) in
     turn (g.B.Terms.adds c.args.terms.now) xs i before d _ _ _ _ _ c.loop-step-test.true c.loop-step.invariant.2 c.loop-step.invariant.1 c.loop-step.invariant.0
-    e c.block-sum.ensures.value c.block-sum.ensures.size (omega (arith, ints))
+    e c.add-sum.ensures.value c.add-sum.ensures.size (omega (arith, ints))
 
 pub returns : goal.returns
 returns g c =

@@ -10,11 +10,11 @@ small price m b h = wider (1000000000 * m) _ _ (omega arith) (bounded_times 1000
 
 pub overflow_mul-result : goal.overflow_mul-result
 overflow_mul-result c =
-    product_fits _ _ c.args.price (pos c.args.tenths) (to_z-of_z w64 _ c.ranges.price) (omega (arith, ints)) (small _ _ c.requires.0 c.requires.1)
+    product_fits _ _ c.args.price (pos c.args.tenths) (to_z-of_z w64 _ c.ranges.price) (omega (arith, ints)) (small _ _ c.requires.price c.requires.tenths)
 
 pub returns : goal.returns
 returns c =
-    let e = product_is _ _ c.args.price (pos c.args.tenths) (to_z-of_z w64 _ c.ranges.price) (omega (arith, ints)) (small _ _ c.requires.0 c.requires.1) in
+    let e = product_is _ _ c.args.price (pos c.args.tenths) (to_z-of_z w64 _ c.ranges.price) (omega (arith, ints)) (small _ _ c.requires.price c.requires.tenths) in
     record {
       value = e;
       size = λ k b. subst (λ (z : ℤ). Bounded (k * c.args.tenths) z) (sym e) (bounded_times k c.args.tenths c.args.price b);

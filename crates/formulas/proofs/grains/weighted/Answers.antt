@@ -10,14 +10,14 @@ pub overflow_mul-result : goal.overflow_mul-result
 overflow_mul-result c =
     let f : to_z w64 c.args.factor ≡ pos c.args.factor = omega (arith, ints) in
     let g : to_z w64 (of_z w64 (to_z w32 (of_z w32 c.args.cents))) ≡ c.args.cents = omega (arith, ints) in
-    product_fits _ _ _ _ f g (wider 500000000 _ _ (lit≤ tt) (weighted_bounded _ _ c.requires.0 c.requires.1))
+    product_fits _ _ _ _ f g (wider 500000000 _ _ (lit≤ tt) (weighted_bounded _ _ c.requires.factor c.requires.cents))
 
 pub returns : goal.returns
 returns c =
     let f : to_z w64 c.args.factor ≡ pos c.args.factor = omega (arith, ints) in
     let g : to_z w64 (of_z w64 (to_z w32 (of_z w32 c.args.cents))) ≡ c.args.cents = omega (arith, ints) in
-    let e = product_is _ _ _ _ f g (wider 500000000 _ _ (lit≤ tt) (weighted_bounded _ _ c.requires.0 c.requires.1)) in
+    let e = product_is _ _ _ _ f g (wider 500000000 _ _ (lit≤ tt) (weighted_bounded _ _ c.requires.factor c.requires.cents)) in
     record {
       value = e;
-      size = subst (λ (z : ℤ). Bounded 500000000 z) (sym e) (weighted_bounded _ _ c.requires.0 c.requires.1);
+      size = subst (λ (z : ℤ). Bounded 500000000 z) (sym e) (weighted_bounded _ _ c.requires.factor c.requires.cents);
     }

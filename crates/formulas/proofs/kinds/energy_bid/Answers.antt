@@ -1,4 +1,4 @@
-use Rattle.std.proofs.Common.{◌≡◌, get_or, ℤ, pos, sym, ap, ◌∙◌, subst, arith, w32, to_z, of_z}
+use Rattle.std.proofs.Common.{ℤ, pos, sym, ap, ◌∙◌, subst, arith}
 use Rattle.std.proofs.lemmas.Int.{ints, clamps}
 use Rattle.market.specs.declared.step.Step.{Step}
 use Rattle.market.proofs.Orderings.{orderly_at, lawful_one}
@@ -9,21 +9,15 @@ use Rattle.formulas.proofs.Tops.{top_turn, top_all}
 use Rattle.formulas.proofs.kinds.energy_bid.Goals as goal
 
 pub bid_step-requires : goal.bid_step-requires
-bid_step-requires c = (
-  c.args.factors.first,
-  (
-    record { low = omega (arith, ints); high = omega (arith, ints) },
-    orderly_at 0 c.steps-steps.result.now c.loop-step.step-index (record { quantity = 0; price = pos 0 }) c.steps-steps.ensures.orderly c.loop-step-test.true,
-  ),
-)
+bid_step-requires c =
+    orderly_at 0 c.steps-steps.result.now c.loop-step.step-index (record { quantity = 0; price = pos 0 }) c.steps-steps.ensures.orderly c.loop-step-test.true
 
 pub loop-step-preserved : goal.loop-step-preserved
 loop-step-preserved c =
-    let d : Step = record { quantity = 0; price = pos 0 } in
-    let e : to_z w32 (of_z w32 c.args.d.cents) ≡ c.args.d.cents = omega (arith, ints) in (
+    let d : Step = record { quantity = 0; price = pos 0 } in (
       top_turn (bid_step c.args.factors.e1 c.args.d.cents) c.steps-steps.result.now c.loop-step.step-index d _ _ _ _ _ _
           c.loop-step-test.true c.loop-step.invariant.0 c.max-top.ensures.value
-          (c.bid_step.ensures.value ∙ ap (λ z. bid_step c.args.factors.e1 z (get_or c.steps-steps.result.now c.loop-step.step-index d)) e)
+          c.bid_step.ensures.value
           (omega (arith, ints)) (omega (arith, ints, clamps)),
       record { low = omega (arith, ints, clamps); high = omega (arith, ints, clamps) },
     )
