@@ -1,10 +1,32 @@
--- Rates are made just where their test passes.
-use Rattle.std.proofs.Common.{◌≡◌, Bool, true, false, List, ℤ, Ok, Err, refl, ap}
+-- Rates are made just where each price is in range.
+use Rattle.std.proofs.Common.{◌≡◌, ℕ, zero, suc, ◌<◌, Bool, true, false, List, length, get_or, ℤ, pos, Ok, Err, refl, ap, arith}
+use Rattle.std.proofs.lemmas.Bool.{and_from, false_from_ne_true}
+use Rattle.std.specs.List.{EachIndex}
+use Rattle.market.specs.Facts.{left_of, right_of}
+use Rattle.market.specs.Units.{price_fits}
 use mathlib.Core.Bool.{Bool-set}
 use borrow.Author.Tests.{both_ways}
 use Rattle.market.specs.declared.refusal.Refusal.TheVariants.{OutOfRange}
 use Rattle.exposure.specs.Ranges.{rates_fit}
 use Rattle.exposure.specs.Rates.{rates_by, rates_of}
+
+-- the price of a kind, by its place
+abbrev fits_at : List ℤ → ℕ → Bool
+fits_at ps k = price_fits (get_or ps k (pos 0))
+
+each_of : (ps : List ℤ) → rates_fit ps ≡ true → (k : ℕ) → k < 4 → fits_at ps k ≡ true
+each_of ps t zero h = left_of (fits_at ps 0) _ t
+each_of ps t (suc zero) h = left_of (fits_at ps 1) _ (right_of (fits_at ps 0) _ t)
+each_of ps t (suc (suc zero)) h = left_of (fits_at ps 2) _ (right_of (fits_at ps 1) _ (right_of (fits_at ps 0) _ t))
+each_of ps t (suc (suc (suc zero))) h = right_of (fits_at ps 2) _ (right_of (fits_at ps 1) _ (right_of (fits_at ps 0) _ t))
+each_of ps t (suc (suc (suc (suc k)))) h = absurd (omega arith)
+
+pub fit_from_each : (ps : List ℤ) → length ps ≡ 4 → EachIndex ps (λ k. price_fits (get_or ps k (pos 0)) ≡ true) → rates_fit ps ≡ true
+fit_from_each ps long each =
+    and_from (fits_at ps 0) _ (each 0 (omega arith)) (and_from (fits_at ps 1) _ (each 1 (omega arith)) (and_from (fits_at ps 2) (fits_at ps 3) (each 2 (omega arith)) (each 3 (omega arith))))
+
+pub not_fit : (ps : List ℤ) → length ps ≡ 4 → (EachIndex ps (λ k. price_fits (get_or ps k (pos 0)) ≡ true) → ⊥) → rates_fit ps ≡ false
+not_fit ps long none = false_from_ne_true (rates_fit ps) (λ t. none (λ k h. each_of ps t k (omega arith)))
 
 module _ (ps : List ℤ) where
   by_true : (fit : rates_fit ps ≡ true) (test : Bool) (e : rates_fit ps ≡ test) → test ≡ true → Ok (record { prices = ps; fit = fit }) ≡ rates_by ps test e

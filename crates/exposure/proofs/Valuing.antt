@@ -1,5 +1,6 @@
 -- The first fault decides, and past the figures the formula answers.
-use Rattle.std.proofs.Common.{◌≡◌, ℕ, Bool, true, false, cond, ltb, ℤ, Some, None, Ok, Err, Result, refl, ap, ◌∙◌, arith, lit≤, w64, to_z, of_z}
+use Rattle.std.proofs.Common.{◌≡◌, ℕ, Bool, true, false, cond, ltb, ℤ, Some, None, Ok, Err, Option, Result, refl, ap, ◌∙◌, lit≤, w64, to_z, of_z}
+use Rattle.std.specs.Option.{ok_or}
 use Rattle.std.proofs.lemmas.Int.{to_z-of_z}
 use Rattle.market.specs.declared.curve.Curve.{Curve}
 use Rattle.market.specs.Bounds.{Bounded}
@@ -24,21 +25,13 @@ stops f r k e = ap (λ (x : Result ℤ RuleFault). then x k) e
 pub goes : (x : ℤ) (y : Result ℤ RuleFault) (r : Result ℤ RuleFault) (k : ℤ → Result ℤ RuleFault) → Ok x ≡ r → y ≡ k x → y ≡ then r k
 goes x y r k e g = g ∙ ap (λ (z : Result ℤ RuleFault). then z k) e
 
+or_by : (t : Bool) (x : ℤ) (f : RuleFault) → ok_or (cond t None (Some x)) f ≡ cond t (Err f) (Ok x)
+or_by true x f = refl
+or_by false x f = refl
+
 -- a point-to-point bid is valued where its cover is not above its quantity
-some_by : (t : Bool) (x g : ℤ) (f : RuleFault) → Some g ≡ cond t None (Some x) → Ok g ≡ cond t (Err f) (Ok x)
-some_by true x g f e = let z : ◌≡◌ {A = ℕ} 0 1 = cc in absurd (omega arith)
-some_by false x g f e = let k : g ≡ x = cc in ap Ok k
-
-none_by : (t : Bool) (x : ℤ) (f : RuleFault) → None ≡ cond t None (Some x) → Err f ≡ cond t (Err f) (Ok x)
-none_by true x f e = refl
-none_by false x f e = let z : ◌≡◌ {A = ℕ} 0 1 = cc in absurd (omega arith)
-
-module _ (w : ℤ) (cover : ℕ) (c : Curve) where
-  pub covered_some : (g : ℤ) → Some g ≡ cond (ltb (last_of c).quantity cover) None (Some (path_step w cover (last_of c))) → Ok g ≡ covered w cover c
-  covered_some g e = some_by (ltb (last_of c).quantity cover) (path_step w cover (last_of c)) g CoverAboveQuantity e
-
-  pub covered_none : None ≡ cond (ltb (last_of c).quantity cover) None (Some (path_step w cover (last_of c))) → Err CoverAboveQuantity ≡ covered w cover c
-  covered_none e = none_by (ltb (last_of c).quantity cover) (path_step w cover (last_of c)) CoverAboveQuantity e
+pub covered_or : (w : ℤ) (cover : ℕ) (c : Curve) (o : Option ℤ) → o ≡ cond (ltb (last_of c).quantity cover) None (Some (path_step w cover (last_of c))) → ok_or o CoverAboveQuantity ≡ covered w cover c
+covered_or w cover c o e = ap (λ (x : Option ℤ). ok_or x CoverAboveQuantity) e ∙ or_by (ltb (last_of c).quantity cover) (path_step w cover (last_of c)) CoverAboveQuantity
 
 -- the records made for a shortfall and for a path hold what they are to
 pub shortfall_is : {X Y : Type 0} (real : X → ℕ → Entry) (ahead : Y → ℕ → Entry) (held made : Spread X Y) (x : X) (y : Y) → held ≡ made → made.first ≡ x → made.second ≡ y → (p : ℕ) → floored (minus (real held.first p) (ahead held.second p)) ≡ floored (minus (real x p) (ahead y p))

@@ -1,59 +1,57 @@
 // Figures: percentiles of what a record has at a point and an hour over thirty days.
 ghost use Rattle.std.specs.Prelude.{◌≡◌};
+ghost use Rattle.std.specs.Option.{unwrap_or};
 ghost use Rattle.exposure.specs.Figures.{gathered, figure_at, lettered_at, in_cents};
 
 use crate::fault::RuleFault;
 use formulas::figure::Figure;
 use market::units::{Hour, Point, Price};
 use prices::fault::RecordFault;
+use prices::range::DAYS;
 use prices::record::Record;
 use ranking::letters::percent_of;
 use ranking::percentile::percentile;
 
-// What the thirty days have.
-fn gather<R: Record>(
-    source: &R,
-    point: Point,
-    hour: Hour,
-) -> Result<[Option<Price>; 30], RecordFault>
-    ensures { result ≡ gathered (R.Record.meaning source.now point) hour }
-{
-    let mut days = [None; 30];
-    for k in 0..30 {
-        days[k] = source.ask(point, hour, k as u8 + 1)?;
-    }
-    Ok(days)
+// A record at a point and an hour.
+#[derive(Clone, Copy)]
+pub(crate) struct Place<R> {
+    pub(crate) record: R,
+    pub(crate) point: Point,
+    pub(crate) hour: Hour,
 }
 
-// The percentile of the thirty days; without any, the fault names the letter, the point and the hour.
-pub(crate) fn figure<R: Record>(
-    source: &R,
-    letter: char,
-    percent: u8,
-    point: Point,
-    hour: Hour,
-) -> Result<Figure, RuleFault>
-    ensures { in_cents result ≡ figure_at (R.Record.meaning source.now point) letter percent point hour }
-{
-    let days = gather(source, point, hour)?;
-    match percentile(&days, percent) {
-        Ok(cents) => Ok(Figure { cents }),
-        Err(_) => Err(RuleFault::NoDays {
+impl<R: Record> Place<R> {
+    // What the thirty days have. No heap: the array has room for each.
+    fn gather(&self) -> Result<[Option<Price>; DAYS as usize], RecordFault>
+        ensures { result ≡ gathered (R.Record.meaning self.now.record self.now.point) self.now.hour }
+    {
+        let mut days = [None; DAYS as usize];
+        for day in 1..=DAYS {
+            days[day as usize - 1] = self.record.ask(self.point, self.hour, day)?;
+        }
+        Ok(days)
+    }
+
+    // The percentile of the thirty days; without any, or without a percentile, the fault names the letter,
+    // the point and the hour.
+    pub(crate) fn figure(&self, letter: char, percent: Option<u8>) -> Result<Figure, RuleFault>
+        ensures { in_cents result ≡ figure_at (R.Record.meaning self.now.record self.now.point) letter (unwrap_or percent 0) self.now.point self.now.hour }
+    {
+        let days = self.gather()?;
+        let none = RuleFault::NoDays {
             letter,
-            point,
-            hour,
-        }),
+            point: self.point,
+            hour: self.hour,
+        };
+        let percent = percent.ok_or(none)?;
+        let cents = percentile(&days, percent).or(Err(none))?;
+        Ok(Figure { cents })
     }
-}
 
-// The percentile that the letter stands for.
-pub(crate) fn lettered<R: Record>(
-    source: &R,
-    letter: char,
-    point: Point,
-    hour: Hour,
-) -> Result<Figure, RuleFault>
-    ensures { in_cents result ≡ lettered_at (R.Record.meaning source.now point) letter point hour }
-{
-    figure(source, letter, percent_of(letter).unwrap_or(0), point, hour)
+    // The percentile that the letter stands for.
+    pub(crate) fn lettered(&self, letter: char) -> Result<Figure, RuleFault>
+        ensures { in_cents result ≡ lettered_at (R.Record.meaning self.now.record self.now.point) letter self.now.point self.now.hour }
+    {
+        self.figure(letter, percent_of(letter))
+    }
 }

@@ -3,10 +3,10 @@ ghost use Rattle.std.specs.Prelude.{◌≡◌};
 ghost use Rattle.exposure.specs.Protocol.{bid_worth, offer_worth, three_part_worth, path_worth};
 
 use crate::fault::RuleFault;
-use crate::figures::{figure, lettered};
+use crate::figures::Place;
 use crate::protocol::Protocol;
 use formulas::kinds::{energy_bid, energy_only_offer, point_to_point, three_part_offer};
-use market::curve::Curve;
+use market::submission::Submission;
 use market::units::{Hour, Point, Tenths};
 use prices::floor::Floor;
 use prices::path::Path;
@@ -17,61 +17,76 @@ use prices::spread::Spread;
 const SHORTFALL_PERCENT: u8 = 90;
 
 impl<D: Record, T: Record> Protocol<D, T> {
-    pub(crate) fn energy_bid(
-        &self,
-        curve: &Curve,
-        point: Point,
-        hour: Hour,
-    ) -> Result<i64, RuleFault>
-        ensures { result ≡ bid_worth (D.Record.meaning self.now.day_ahead) self.now.factors curve.now point hour }
+    pub(crate) fn energy_bid(&self, submission: &Submission, point: Point) -> Result<i64, RuleFault>
+        ensures { result ≡ bid_worth (D.Record.meaning self.now.day_ahead) self.now.factors submission.now.curve point submission.now.hour }
     {
-        let d = lettered(&self.day_ahead, 'd', point, hour)?;
-        Ok(energy_bid(curve, self.factors, d))
+        let ahead = Place {
+            record: self.day_ahead,
+            point,
+            hour: submission.hour(),
+        };
+        let d = ahead.lettered('d')?;
+        Ok(energy_bid(&submission.curve(), self.factors, d))
     }
 
     pub(crate) fn energy_only_offer(
         &self,
-        curve: &Curve,
+        submission: &Submission,
         point: Point,
-        hour: Hour,
     ) -> Result<i64, RuleFault>
-        ensures { result ≡ offer_worth (D.Record.meaning self.now.day_ahead) (T.Record.meaning self.now.real_time) self.now.factors curve.now point hour }
+        ensures { result ≡ offer_worth (D.Record.meaning self.now.day_ahead) (T.Record.meaning self.now.real_time) self.now.factors submission.now.curve point submission.now.hour }
     {
-        let a = lettered(&self.day_ahead, 'a', point, hour)?;
-        let b = lettered(&self.day_ahead, 'b', point, hour)?;
-        let shortfall = Floor::new(Spread::new(self.real_time, self.day_ahead));
-        let s = figure(&shortfall, 's', SHORTFALL_PERCENT, point, hour)?;
-        Ok(energy_only_offer(curve, self.factors, a, b, s))
+        let hour = submission.hour();
+        let ahead = Place {
+            record: self.day_ahead,
+            point,
+            hour,
+        };
+        let a = ahead.lettered('a')?;
+        let b = ahead.lettered('b')?;
+        let spread = Spread::new(self.real_time, self.day_ahead);
+        let shortfall = Place {
+            record: Floor::new(spread),
+            point,
+            hour,
+        };
+        let s = shortfall.figure('s', Some(SHORTFALL_PERCENT))?;
+        Ok(energy_only_offer(&submission.curve(), self.factors, a, b, s))
     }
 
     pub(crate) fn three_part_offer(
         &self,
-        curve: &Curve,
+        submission: &Submission,
         point: Point,
-        hour: Hour,
     ) -> Result<i64, RuleFault>
-        ensures { result ≡ three_part_worth (D.Record.meaning self.now.day_ahead) curve.now point hour }
+        ensures { result ≡ three_part_worth (D.Record.meaning self.now.day_ahead) submission.now.curve point submission.now.hour }
     {
-        let y = lettered(&self.day_ahead, 'y', point, hour)?;
-        let z = lettered(&self.day_ahead, 'z', point, hour)?;
-        Ok(three_part_offer(curve, y, z))
+        let ahead = Place {
+            record: self.day_ahead,
+            point,
+            hour: submission.hour(),
+        };
+        let y = ahead.lettered('y')?;
+        let z = ahead.lettered('z')?;
+        Ok(three_part_offer(&submission.curve(), y, z))
     }
 
     pub(crate) fn point_to_point(
         &self,
-        curve: &Curve,
+        submission: &Submission,
         source: Point,
         sink: Point,
-        hour: Hour,
         cover: Tenths,
     ) -> Result<i64, RuleFault>
-        ensures { result ≡ path_worth (T.Record.meaning self.now.real_time) curve.now source sink hour cover }
+        ensures { result ≡ path_worth (T.Record.meaning self.now.real_time) submission.now.curve source sink submission.now.hour cover }
     {
-        let path = Floor::new(Path::new(self.real_time, source, sink));
-        let w = lettered(&path, 'u', source, hour)?;
-        match point_to_point(curve, w, cover) {
-            Some(grains) => Ok(grains),
-            None => Err(RuleFault::CoverAboveQuantity),
-        }
+        let path = Path::new(self.real_time, source, sink);
+        let floor = Place {
+            record: Floor::new(path),
+            point: source,
+            hour: submission.hour(),
+        };
+        let w = floor.lettered('u')?;
+        point_to_point(&submission.curve(), w, cover).ok_or(RuleFault::CoverAboveQuantity)
     }
 }

@@ -16,18 +16,16 @@ impl<D: Record, T: Record> Rule for Protocol<D, T> {
     ghost within = { λ x s cover. protocol_within (D.Record.meaning x.day_ahead) (T.Record.meaning x.real_time) (D.Record.ranged x.day_ahead) (T.Record.ranged x.real_time) x.factors s cover };
 
     fn value(&mut self, submission: &Submission, cover: Tenths) -> Result<i64, RuleFault> {
-        let curve = submission.curve();
-        let hour = submission.hour();
-        if cover > curve.last().quantity {
+        if cover > submission.curve().last().quantity {
             return Err(RuleFault::CoverAboveQuantity);
         }
         match submission.kind() {
-            Kind::EnergyBid { point } => self.energy_bid(&curve, point, hour),
-            Kind::EnergyOnlyOffer { point } => self.energy_only_offer(&curve, point, hour),
-            Kind::ThreePartOffer { point } => self.three_part_offer(&curve, point, hour),
-            Kind::PointToPoint { source, sink, .. } => self.point_to_point(
-                &curve, source, sink, hour, cover,
-            ),
+            Kind::EnergyBid { point } => self.energy_bid(submission, point),
+            Kind::EnergyOnlyOffer { point } => self.energy_only_offer(submission, point),
+            Kind::ThreePartOffer { point } => self.three_part_offer(submission, point),
+            Kind::PointToPoint { source, sink, .. } => {
+                self.point_to_point(submission, source, sink, cover)
+            }
         }
     }
 }

@@ -1,5 +1,5 @@
 // Making rates, and the rule that values by them.
-ghost use Rattle.std.specs.Prelude.{◌≡◌, ◌≤◌, pos, negsuc, ◌≤ℤ◌};
+ghost use Rattle.std.specs.Prelude.{◌≡◌, ◌≤◌, true, pos, negsuc, ◌≤ℤ◌, ◌↔◌, IsTrue, EachIndex, slice_index_or};
 ghost use Rattle.market.specs.Units.{price_fits};
 ghost use Rattle.exposure.specs.Ranges.{rates_fit};
 ghost use Rattle.exposure.specs.Rates.{rates_of, rate_for, in_grains, rate_worth};
@@ -20,9 +20,9 @@ fn price_fits(price: Price) -> bool
 }
 
 fn all_fit(prices: [Price; 4]) -> bool
-    ensures { result ≡ rates_fit prices }
+    ensures { IsTrue result ↔ EachIndex prices (λ k. price_fits (slice_index_or prices k (pos 0)) ≡ true) }
 {
-    price_fits(prices[0]) && price_fits(prices[1]) && price_fits(prices[2]) && price_fits(prices[3])
+    prices.iter().all(|price| price_fits(*price))
 }
 
 // A thousandth of a cent is a grain: cents per MWh times tenths of a MW, for an hour, a hundred each.
@@ -50,11 +50,17 @@ impl Rates {
         ensures low { negsuc 999999 ≤ℤ result }
         ensures high { result ≤ℤ pos 1000000 }
     {
+        let [
+            energy_bid,
+            energy_only_offer,
+            three_part_offer,
+            point_to_point,
+        ] = self.prices;
         match kind {
-            Kind::EnergyBid { .. } => self.prices[0],
-            Kind::EnergyOnlyOffer { .. } => self.prices[1],
-            Kind::ThreePartOffer { .. } => self.prices[2],
-            Kind::PointToPoint { .. } => self.prices[3],
+            Kind::EnergyBid { .. } => energy_bid,
+            Kind::EnergyOnlyOffer { .. } => energy_only_offer,
+            Kind::ThreePartOffer { .. } => three_part_offer,
+            Kind::PointToPoint { .. } => point_to_point,
         }
     }
 }
