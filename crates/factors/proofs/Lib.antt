@@ -1,3 +1,2 @@
 pub mod Fractions
-pub mod Halves
 pub mod Counted

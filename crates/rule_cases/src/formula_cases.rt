@@ -6,44 +6,23 @@ use market::curve::Curve;
 use market::step::Step;
 use std::test::Fail;
 
-fn bid(steps: &[Step]) -> Result<Curve, Fail> {
-    match Curve::bid(steps) {
-        Ok(curve) => Ok(curve),
-        Err(_) => Err(Fail::new("no curve")),
-    }
-}
-
-fn offer(steps: &[Step]) -> Result<Curve, Fail> {
-    match Curve::offer(steps) {
-        Ok(curve) => Ok(curve),
-        Err(_) => Err(Fail::new("no curve")),
-    }
-}
-
-fn factors(e1: u8, e2: u8, e3: u8) -> Result<Factors, Fail> {
-    match Factors::make(e1, e2, e3) {
-        Ok(factors) => Ok(factors),
-        Err(_) => Err(Fail::new("no factors")),
-    }
-}
-
 #[test]
 fn energy_bids(rt: HostRuntime) -> Result<(), Fail> {
-    let f = factors(60, 20, 100)?;
+    let f = Factors::make(60, 20, 100)?;
     let d = Figure { cents: 4000 };
     // A is 4000: 100 · (100 · 4000 + 60 · 1000)
-    let curve = bid(&[Step {
+    let curve = Curve::bid(&[Step {
         quantity: 100,
         price: 5000,
     }])?;
     assert_eq!(rt; energy_bid(&curve, f, d), 46_000_000);
-    let free = bid(&[Step {
+    let free = Curve::bid(&[Step {
         quantity: 100,
         price: 0,
     }])?;
     assert_eq!(rt; energy_bid(&free, f, d), 0);
     // the greatest over the steps: 100 · 460,000 against 300 · 100 · 4000
-    let steps = bid(&[
+    let steps = Curve::bid(&[
         Step {
             quantity: 100,
             price: 5000,
@@ -59,10 +38,10 @@ fn energy_bids(rt: HostRuntime) -> Result<(), Fail> {
 
 #[test]
 fn energy_only_offers(rt: HostRuntime) -> Result<(), Fail> {
-    let f = factors(60, 20, 100)?;
+    let f = Factors::make(60, 20, 100)?;
     let a = Figure { cents: 3000 };
     let s = Figure { cents: 800 };
-    let curve = offer(&[Step {
+    let curve = Curve::offer(&[Step {
         quantity: 50,
         price: 3000,
     }])?;
@@ -81,7 +60,7 @@ fn energy_only_offers(rt: HostRuntime) -> Result<(), Fail> {
         4_000_000
     );
     // above a, only what is added whatever the price
-    let dear = offer(&[Step {
+    let dear = Curve::offer(&[Step {
         quantity: 50,
         price: 3001,
     }])?;
@@ -97,7 +76,7 @@ fn three_part_offers(rt: HostRuntime) -> Result<(), Fail> {
     let y = Figure { cents: 2000 };
     let z = Figure { cents: 2500 };
     // −100 · 2500 · 50, and the block above y adds nothing
-    let curve = offer(&[
+    let curve = Curve::offer(&[
         Step {
             quantity: 50,
             price: 2000,
@@ -115,14 +94,14 @@ fn three_part_offers(rt: HostRuntime) -> Result<(), Fail> {
 fn point_to_point_bids(rt: HostRuntime) -> Result<(), Fail> {
     let w = Figure { cents: 500 };
     // 100 · 100 · (300 + 500) − 90 · 300 · 60
-    let curve = bid(&[Step {
+    let curve = Curve::bid(&[Step {
         quantity: 100,
         price: 300,
     }])?;
     assert_eq!(rt; point_to_point(&curve, w, 60), Some(6_380_000));
     assert_eq!(rt; point_to_point(&curve, w, 101), None);
     // 100 · 100 · (0 + 500)
-    let paid = bid(&[Step {
+    let paid = Curve::bid(&[Step {
         quantity: 100,
         price: -300,
     }])?;

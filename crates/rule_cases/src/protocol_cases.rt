@@ -11,20 +11,6 @@ use prices::flat::Flat;
 use prices::page::Page;
 use std::test::Fail;
 
-fn flat(price: i32) -> Result<Flat, Fail> {
-    match Flat::make(price) {
-        Ok(flat) => Ok(flat),
-        Err(_) => Err(Fail::new("no record")),
-    }
-}
-
-fn factors() -> Result<Factors, Fail> {
-    match Factors::make(60, 20, 100) {
-        Ok(factors) => Ok(factors),
-        Err(_) => Err(Fail::new("no factors")),
-    }
-}
-
 // A submission of one step for hour 7, at point 2 or from point 2 to a sink.
 fn submission(kind: u8, sink: u16, quantity: u32, price: i32) -> Result<Submission, Fail> {
     let figures = Figures {
@@ -36,18 +22,15 @@ fn submission(kind: u8, sink: u16, quantity: u32, price: i32) -> Result<Submissi
         sink,
         claim: 0,
     };
-    match Submission::make(figures, &[Step { quantity, price }]) {
-        Ok(submission) => Ok(submission),
-        Err(_) => Err(Fail::new("not made")),
-    }
+    Ok(Submission::make(figures, &[Step { quantity, price }])?)
 }
 
 #[test]
 fn kinds_over_flat_records(rt: HostRuntime) -> Result<(), Fail> {
     let mut rule = Protocol {
-        day_ahead: flat(4000)?,
-        real_time: flat(4800)?,
-        factors: factors()?,
+        day_ahead: Flat::make(4000)?,
+        real_time: Flat::make(4800)?,
+        factors: Factors::make(60, 20, 100)?,
     };
     // d is 4000: 100 · (100 · 4000 + 60 · 1000)
     assert_eq!(rt;
@@ -73,7 +56,7 @@ fn a_cover_above_the_quantity_comes_first(rt: HostRuntime) -> Result<(), Fail> {
     let mut rule = Protocol {
         day_ahead: page,
         real_time: page,
-        factors: factors()?,
+        factors: Factors::make(60, 20, 100)?,
     };
     assert_eq!(rt;
         rule.value(&submission(1, 0, 100, 5000)?, 101),
@@ -90,7 +73,7 @@ fn unknown_points_keep_label_point_and_hour(rt: HostRuntime) -> Result<(), Fail>
     let mut rule = Protocol {
         day_ahead: ahead,
         real_time: real,
-        factors: factors()?,
+        factors: Factors::make(60, 20, 100)?,
     };
     let fault = RecordFault {
         label: Label::DayAhead,
@@ -120,8 +103,8 @@ fn days_without_prices_name_the_letter(rt: HostRuntime) -> Result<(), Fail> {
     let page = Page::new(&cells, Label::DayAhead);
     let mut rule = Protocol {
         day_ahead: page,
-        real_time: flat(0)?,
-        factors: factors()?,
+        real_time: Flat::make(0)?,
+        factors: Factors::make(60, 20, 100)?,
     };
     assert_eq!(rt;
         rule.value(&submission(1, 0, 100, 5000)?, 0),
@@ -140,9 +123,9 @@ fn days_without_prices_name_the_letter(rt: HostRuntime) -> Result<(), Fail> {
         })
     );
     let mut path = Protocol {
-        day_ahead: flat(0)?,
+        day_ahead: Flat::make(0)?,
         real_time: page,
-        factors: factors()?,
+        factors: Factors::make(60, 20, 100)?,
     };
     assert_eq!(rt;
         path.value(&submission(2, 0, 100, 5000)?, 0),

@@ -17,4 +17,4 @@ returns-in_err-ratio g c =
 pub returns : goal.returns
 returns g c =
     let front = take (length c.args.days.now) c.gathered-ratios.result in
-    ap Ok c.in_hundredths.ensures ∙ factor_is g.D.Rated.rating c.args.days.now c.args.p front (Ok c.in_ok-ratio.ratio) (omega arith) (omega arith) c.gathered-ratios.ensures c.in_ok-ratio.ensures.is
+    ap Ok c.in_hundredths.ensures.value ∙ factor_is g.D.Rated.rating c.args.days.now c.args.p front (Ok c.in_ok-ratio.ratio) (omega arith) (omega arith) c.gathered-ratios.ensures c.in_ok-ratio.ensures.is
