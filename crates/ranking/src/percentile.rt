@@ -23,7 +23,7 @@ fn share_of(p: u8, n: usize) -> usize
 {
     let hundreds = n / 100;
     let rest = n % 100;
-    hundreds * p as usize + (rest * p as usize + 99) / 100
+    hundreds * p as usize + (rest * p as usize).div_ceil(100)
 }
 
 // The least element present such that at least `share_of(p, n)` of the n present do not come after
