@@ -34,7 +34,9 @@ below : (a b : ℕ) → (b ≤ a → ⊥) → a < b
 below a b h = grind arith
 
 -- numbers that are at most one another alike compare alike
-alike : (a b c d : ℕ) → (a ≤ b → c ≤ d) → (c ≤ d → a ≤ b) → (b ≤ a → d ≤ c) → (d ≤ c → b ≤ a) → nat_cmp a b ≡ nat_cmp c d
+alike : (a b c d : ℕ)
+    → (a ≤ b → c ≤ d) → (c ≤ d → a ≤ b) → (b ≤ a → d ≤ c) → (d ≤ c → b ≤ a)
+    → nat_cmp a b ≡ nat_cmp c d
 alike a b c d f g h k = grind (arith, nat_tests)
 
 -- so cross-multiplication is a total order, whose equal fractions are equal values
@@ -44,7 +46,9 @@ crossed_total = record {
   trans = λ x y z p q.
       let h = less (x.top * y.bottom) (y.top * x.bottom) p in
       let k = less (y.top * z.bottom) (z.top * y.bottom) q in
-      is_less _ _ (below _ _ (λ back. let u = through z.top z.bottom x.top x.bottom y.top y.bottom x.proper back (omega arith) in absurd (omega arith)));
+      let over : z.top * x.bottom ≤ x.top * z.bottom → ⊥ =
+      λ back. let u = through z.top z.bottom x.top x.bottom y.top y.bottom x.proper back (omega arith) in absurd (omega arith) in
+      is_less _ _ (below _ _ over);
   congr = λ x y z p.
       let e = equal (x.top * y.bottom) (y.top * x.bottom) p in
       let xy : x.top * y.bottom ≤ y.top * x.bottom = omega arith in
