@@ -1,3 +1,3 @@
-pub mod Filling
+pub mod Chunks
 pub mod Opening
 pub mod Heading

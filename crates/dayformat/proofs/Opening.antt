@@ -1,11 +1,13 @@
 -- The call that bytes open with is what the letter's pattern reads: the letter settles which clause of
 -- the definition holds, and the pattern's length that the call is not cut.
-use Rattle.std.proofs.Common.{◌≡◌, ℕ, ◌+◌, ◌-◌, ◌*◌, ◌<◌, ◌≤◌, Bool, true, false, cond, eqb, leb, List, length, get_or, take, drop, Some, None, sym, refl, ap, ◌∙◌, arith, length-drop, length-take, eqb-true, le-leb, leb-true}
+use Rattle.std.proofs.Common.{◌≡◌, ℕ, ◌+◌, ◌-◌, ◌*◌, ◌/◌, ◌<◌, ◌≤◌, Bool, true, false, cond, eqb, leb, List, map, length, get_or, take, drop, Some, None, sym, refl, ap, ◌∙◌, arith, length-drop, eqb-true, le-leb, leb-true}
 use borrow.Author.Tests.{lt-leb}
-use Rattle.std.proofs.lemmas.List.{drop-drop, take_rest}
+use Rattle.std.proofs.lemmas.List.{drop-drop, take_rest, length-take-le}
 use Rattle.std.proofs.lemmas.Bool.{cond-true, cond-false}
 use Rattle.market.specs.declared.kind.Figures.{Figures}
-use Rattle.dayformat.specs.Steps.{steps_of}
+use Rattle.market.specs.declared.step.Step.{Step}
+use Rattle.std.specs.Simd.{first_chunks}
+use Rattle.dayformat.specs.Steps.{step_of, steps_of}
 use Rattle.dayformat.specs.Filed.{Filed, to_submit}
 use Rattle.dayformat.specs.Calls.{sized, figures_of, by_letter, first_call}
 
@@ -25,22 +27,24 @@ pub opens : (bs : List ℕ) (b n : ℕ) (k k' : Filed) → by_letter b bs ≡ si
 unfolding first_call
 opens bs b n k k' how e one long same = reads bs (take (length bs - n) (drop n bs)) n k k' (ap (λ (x : ℕ). by_letter x bs) e ∙ how) one long same (sym (take_rest bs n))
 
--- a submission with its steps, n bytes of what is past the figures, and what is past m of them
-pub opens_steps : (bs rest : List ℕ) (f : Figures) (count n m : ℕ) → get_or bs 0 0 ≡ 83 → 14 ≤ length bs → rest ≡ drop 14 bs → 8 * get_or bs 13 0 ≤ length rest →
-    f ≡ figures_of bs → count ≡ get_or bs 13 0 → n ≡ 8 * get_or bs 13 0 → m ≡ 8 * get_or bs 13 0 →
-    (first_call bs ≡ Some (to_submit f (steps_of (take n rest) count), take (length rest - m) (drop m rest))) × (length (take (length rest - m) (drop m rest)) < length bs)
+-- a submission with its steps, and what is past them
+pub opens_steps : (bs rest part after : List ℕ) (f : Figures) (steps : List Step) → get_or bs 0 0 ≡ 83 → 14 ≤ length bs → rest ≡ drop 14 bs →
+    (part ≡ take (8 * get_or bs 13 0) rest) × (after ≡ drop (8 * get_or bs 13 0) rest) × (8 * get_or bs 13 0 ≤ length rest) →
+    f ≡ figures_of bs → steps ≡ map step_of (first_chunks 8 (length part / 8) part) →
+    (first_call bs ≡ Some (to_submit f steps, after)) × (length after < length bs)
 unfolding first_call
-opens_steps bs rest f count n m e long same fits figures counted size gone =
-    let k = 8 * get_or bs 13 0 in
+opens_steps bs rest part after f steps e long same cuts figures are =
+    let c = get_or bs 13 0 in
     let r : length rest ≡ length bs - 14 = ap length same ∙ length-drop 14 bs in
-    let part : take k (drop 14 bs) ≡ take n rest = ap (λ (j : ℕ). take j (drop 14 bs)) (sym size) ∙ ap (take n) (sym same) in
-    let steps : steps_of (take k (drop 14 bs)) (get_or bs 13 0) ≡ steps_of (take n rest) count =
-    ap (λ (l : List ℕ). steps_of l (get_or bs 13 0)) part ∙ ap (steps_of (take n rest)) (sym counted) in
-    let past : drop (14 + k) bs ≡ take (length rest - m) (drop m rest) =
-    sym (take_rest rest m ∙ ap (drop m) same ∙ drop-drop m 14 bs ∙ ap (λ (j : ℕ). drop j bs) (omega arith)) in
-    reads bs (take (length rest - m) (drop m rest)) (14 + k) (to_submit (figures_of bs) (steps_of (take k (drop 14 bs)) (get_or bs 13 0))) (to_submit f (steps_of (take n rest) count))
+    let fits : 8 * c ≤ length rest = cuts.2 in
+    let size : length part ≡ 8 * c = ap length cuts.0 ∙ length-take-le (8 * c) rest fits in
+    let count : length part / 8 ≡ c = omega arith in
+    let here : part ≡ take (8 * c) (drop 14 bs) = cuts.0 ∙ ap (take (8 * c)) same in
+    let read : steps ≡ steps_of (take (8 * c) (drop 14 bs)) c = are ∙ ap (λ (n : ℕ). steps_of part n) count ∙ ap (λ (l : List ℕ). steps_of l c) here in
+    let past : drop (14 + 8 * c) bs ≡ after = sym (cuts.1 ∙ ap (drop (8 * c)) same ∙ drop-drop (8 * c) 14 bs ∙ ap (λ (j : ℕ). drop j bs) (omega arith)) in
+    reads bs after (14 + 8 * c) (to_submit (figures_of bs) (steps_of (take (8 * c) (drop 14 bs)) c)) (to_submit f steps)
     (ap (λ (x : ℕ). by_letter x bs) e ∙ cond-true (leb 14 (length bs)) _ None (le-leb 14 (length bs) long)) (omega arith) (omega arith)
-    (ap (λ (g : Figures). to_submit g (steps_of (take k (drop 14 bs)) (get_or bs 13 0))) (sym figures) ∙ ap (to_submit f) steps) past
+    (ap (λ (g : Figures). to_submit g (steps_of (take (8 * c) (drop 14 bs)) c)) (sym figures) ∙ ap (to_submit f) (sym read)) past
 
 no_size : (n : ℕ) (bs : List ℕ) (k : Filed) → (n ≤ length bs → ⊥) → sized n bs k ≡ None
 no_size n bs k h = cond-false (leb n (length bs)) (Some (k, drop n bs)) None (lt-leb n (length bs) (omega (arith, h)))
@@ -67,7 +71,3 @@ no_call bs s w l =
     by_test (eqb (get_or bs 0 0) 83) _ _ _ (λ e. by_test (leb 14 (length bs)) _ _ _ (λ t. absurd (s (eqb-true _ _ e) (leb-true 14 (length bs) t))) refl)
     (by_test (eqb (get_or bs 0 0) 87) _ _ _ (λ e. no_size 5 bs _ (w (eqb-true _ _ e)))
     (by_test (eqb (get_or bs 0 0) 76) _ _ _ (λ e. no_size 9 bs _ (l (eqb-true _ _ e))) refl))
-
--- so many steps are in the part that is taken for them
-pub whole_steps : (rest : List ℕ) (count n : ℕ) → n ≡ 8 * count → n ≤ length rest → 8 * count ≤ length (take n rest)
-whole_steps rest count n size fits = simp length-take (omega arith)

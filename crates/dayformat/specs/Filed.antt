@@ -1,10 +1,9 @@
 -- A call as the file has it, apart from the bytes, and what a call of the code stands for. Assumes nothing.
-use Rattle.std.specs.Prelude.{ℕ, ◌*◌, ◌≤◌, List, length, ℤ}
+use Rattle.std.specs.Prelude.{ℕ, List, ℤ}
 use Rattle.market.specs.declared.kind.Figures.{Figures}
 use Rattle.market.specs.declared.step.Step.{Step}
 use Rattle.dayformat.specs.declared.call.Call.{Call}
 use Rattle.dayformat.specs.declared.call.Call.TheVariants.{Submit, Withdraw, Limit}
-use Rattle.dayformat.specs.Steps.{steps_of}
 
 pub data Filed : Type 0 where
   to_submit : Figures → List Step → Filed
@@ -12,12 +11,6 @@ pub data Filed : Type 0 where
   to_limit : ℤ → Filed
 
 abbrev pub means : Call → Filed
-means (Submit figures count steps) = to_submit figures (steps_of steps.now count)
+means (Submit figures steps) = to_submit figures steps.items
 means (Withdraw number) = to_withdraw number
 means (Limit limit) = to_limit limit
-
--- the bytes of all the steps are there
-abbrev pub Whole : Call → Type 0
-Whole (Submit figures count steps) = 8 * count ≤ length steps.now
-Whole (Withdraw number) = Unit {0}
-Whole (Limit limit) = Unit {0}

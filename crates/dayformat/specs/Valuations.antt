@@ -1,5 +1,6 @@
 -- What a file values submissions by: rates, or factors and two pages of price cells. Assumes nothing.
-use Rattle.std.specs.Prelude.{ℕ, ◌+◌, ◌*◌, ◌≤◌, cond, ◌&&◌, List, [], ◌∷◌, length, take, drop, ℤ, Some, None, Option, ◌==◌, nat_le, slice_index}
+use Rattle.std.specs.Prelude.{ℕ, ◌+◌, ◌*◌, cond, ◌&&◌, List, [], ◌∷◌, length, take, drop, ℤ, Some, None, Option, ◌==◌, nat_le, slice_index}
+use Rattle.std.specs.Borrow.{Bor}
 use Rattle.dayformat.specs.declared.header.Valuation.{Valuation}
 use Rattle.dayformat.specs.declared.header.Valuation.TheVariants.{Rates, Protocol}
 use Rattle.dayformat.specs.Bytes.{le4_signed}
@@ -10,38 +11,32 @@ pub data Valued : Type 0 where
   by_protocol : ℕ → ℕ → ℕ → List ℕ → List ℕ → Valued
 
 -- four rates, by kind
-abbrev pub rates_at : List ℕ → ℕ → List ℤ
-rates_at bs i = le4_signed bs i ∷ le4_signed bs (i + 4) ∷ le4_signed bs (i + 8) ∷ le4_signed bs (i + 12) ∷ []
+abbrev pub rates_of : List ℕ → List ℤ
+rates_of bs = le4_signed bs 0 ∷ le4_signed bs 4 ∷ le4_signed bs 8 ∷ le4_signed bs 12 ∷ []
 
--- two pages of so many points from a place on, each point 2,880 bytes
-abbrev pub paged : List ℕ → ℕ → ℕ → ℕ → ℕ → ℕ → Valued
-paged bs e1 e2 e3 points place =
-    by_protocol e1 e2 e3 (take (2880 * points) (drop place bs)) (take (2880 * points) (drop (place + 2880 * points) bs))
+-- two pages of so many points, each point 2,880 bytes
+abbrev pub paged : ℕ → ℕ → ℕ → ℕ → List ℕ → Valued
+paged e1 e2 e3 points bs = by_protocol e1 e2 e3 (take (2880 * points) bs) (take (2880 * points) (drop (2880 * points) bs))
 
--- behind rule byte 1: the rates, and where they end
-abbrev pub rates_valued : List ℕ → ℕ → Option (Valued × ℕ)
-rates_valued bs p = cond (nat_le (p + 17) (length bs)) (Some (by_rates (rates_at bs (p + 1)), p + 17)) None
+-- behind rule byte 1: the rates, and what follows them
+abbrev pub rates_valued : List ℕ → Option (Valued × List ℕ)
+rates_valued bs = cond (nat_le 16 (length bs)) (Some (by_rates (rates_of bs), drop 16 bs)) None
 
--- behind rule byte 2: the factors, 1 to 8 points and the pages, and where they end
-abbrev pub pages_valued : List ℕ → ℕ → Option (Valued × ℕ)
-pages_valued bs p =
-    cond (nat_le (p + 5) (length bs) && ((nat_le 1 (slice_index bs (p + 4)) && nat_le (slice_index bs (p + 4)) 8) && nat_le (p + 5 + 5760 * slice_index bs (p + 4)) (length bs)))
-    (Some (paged bs (slice_index bs (p + 1)) (slice_index bs (p + 2)) (slice_index bs (p + 3)) (slice_index bs (p + 4)) (p + 5), p + 5 + 5760 * slice_index bs (p + 4))) None
+-- behind rule byte 2: the factors, 1 to 8 points and the pages, and what follows them
+abbrev pub pages_valued : List ℕ → Option (Valued × List ℕ)
+pages_valued bs =
+    cond (nat_le 4 (length bs) && ((nat_le 1 (slice_index bs 3) && nat_le (slice_index bs 3) 8) && nat_le (4 + 5760 * slice_index bs 3) (length bs)))
+    (Some (paged (slice_index bs 0) (slice_index bs 1) (slice_index bs 2) (slice_index bs 3) (drop 4 bs), drop (4 + 5760 * slice_index bs 3) bs)) None
 
--- by the rule byte at a place
-abbrev pub valued_at : List ℕ → ℕ → Option (Valued × ℕ)
-valued_at bs p = cond (slice_index bs p == 1) (rates_valued bs p) (cond (slice_index bs p == 2) (pages_valued bs p) None)
+-- by the rule byte
+abbrev pub valued_by : List ℕ → Option (Valued × List ℕ)
+valued_by bs = cond (slice_index bs 0 == 1) (rates_valued (drop 1 bs)) (cond (slice_index bs 0 == 2) (pages_valued (drop 1 bs)) None)
 
--- what a valuation of the code stands for in its file
-abbrev pub meant : List ℕ → Valuation → Valued
-meant file (Rates prices) = by_rates prices
-meant file (Protocol factors points pages) = paged file (slice_index factors 0) (slice_index factors 1) (slice_index factors 2) points pages
+-- what a valuation of the code stands for, and with it the bytes that follow
+abbrev pub meant : Valuation → Valued
+meant (Rates prices) = by_rates prices
+meant (Protocol factors day_ahead real_time) =
+    by_protocol (slice_index factors 0) (slice_index factors 1) (slice_index factors 2) day_ahead.now real_time.now
 
-abbrev pub valued_of : List ℕ → Option (Valuation × ℕ) → Option (Valued × ℕ)
-valued_of file None = None
-valued_of file (Some p) = Some (meant file p.0, p.1)
-
--- its pages end within so many bytes
-abbrev pub Inside : ℕ → Valuation → Type 0
-Inside n (Rates prices) = Unit {0}
-Inside n (Protocol factors points pages) = pages + 5760 * points ≤ n
+abbrev pub valued_of : Valuation × Bor (List ℕ) → Valued × List ℕ
+valued_of p = (meant p.0, p.1.now)

@@ -1,13 +1,16 @@
 // A call as the file has it.
+use arrayvec::ArrayVec;
 use market::kind::Figures;
+use market::step::Step;
 
-// The steps of a submission are `count` stretches of eight bytes.
-#[derive(Clone, Copy)]
-pub enum Call<'a> {
+// So many steps fit the byte that counts them.
+pub const MOST_STEPS: usize = 255;
+
+#[derive(Drop)]
+pub enum Call {
     Submit {
         figures: Figures,
-        count: u8,
-        steps: &'a [u8],
+        steps: ArrayVec<Step, MOST_STEPS>,
     },
     Withdraw(u32),
     Limit(i64),

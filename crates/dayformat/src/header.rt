@@ -1,6 +1,5 @@
 // The header of a file, its figures not yet tested.
-ghost use Rattle.std.specs.Prelude.{◌≤◌};
-
+use arrayvec::ArrayVec;
 use market::right::Right;
 use market::units::Price;
 
@@ -8,24 +7,22 @@ pub const MOST_RIGHTS: usize = 200;
 
 // What the file values submissions by.
 #[derive(Clone, Copy)]
-pub enum Valuation {
+pub enum Valuation<'a> {
     // Rates, by kind.
     Rates([Price; 4]),
-    // Three factors, and two pages of so many points: day-ahead at the place, and real-time behind it.
+    // Three factors and two pages, each of so many points.
     Protocol {
         factors: [u8; 3],
-        points: usize,
-        pages: usize,
+        day_ahead: &'a [u8],
+        real_time: &'a [u8],
     },
 }
 
-// The rights stand in the first `count` places. The calls begin at `length`.
-#[derive(Clone, Copy)]
-pub struct Header {
+// The calls are the rest of the file.
+#[derive(Drop)]
+pub struct Header<'a> {
     pub limit: i64,
-    pub rights: [Right; 200],
-    pub count: usize,
-    pub valuation: Valuation,
-    pub length: usize,
-    ghost few: { count ≤ 200 },
+    pub rights: ArrayVec<Right, MOST_RIGHTS>,
+    pub valuation: Valuation<'a>,
+    pub calls: &'a [u8],
 }

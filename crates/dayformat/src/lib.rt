@@ -1,8 +1,8 @@
 //! The format of a day file: its bytes, read as a header and calls.
 #![tactic(auto)]
 
-mod bytes;
 pub mod call;
 pub mod calls;
 pub mod header;
 pub mod headers;
+mod packed;

@@ -5,7 +5,7 @@ use crate::units::{Hour, Point, Tenths};
 pub const MOST_RIGHTS: usize = 200;
 
 // A path from source to sink at one hour.
-#[derive(Clone, Copy, PartialEq, Eq, Debug)]
+#[derive(Clone, Copy, PartialEq, Eq, Debug, Default)]
 pub struct PathHour {
     pub source: Point,
     pub sink: Point,
@@ -13,7 +13,7 @@ pub struct PathHour {
 }
 
 // The tenths that the counter-party holds on a path at an hour.
-#[derive(Clone, Copy, PartialEq, Eq, Debug)]
+#[derive(Clone, Copy, PartialEq, Eq, Debug, Default)]
 pub struct Right {
     pub path: PathHour,
     pub tenths: Tenths,
