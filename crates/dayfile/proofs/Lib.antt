@@ -1,5 +1,3 @@
-pub mod Writes
 pub mod Writing
 pub mod Going
 pub mod Opening
-pub mod Numbered

@@ -1,38 +1,55 @@
--- The lines of a whole file, from its header.
-use Rattle.std.proofs.Common.{◌≡◌, ℕ, List, ◌++◌, length, drop, Some, None, sym, ap, ◌∙◌, zero-add}
-use Rattle.book.specs.declared.refusal.Refusal.{Refusal as Unopened}
-use Rattle.book.specs.Answers.{opening_fault}
-use Rattle.book.specs.Opening.{start}
-use Rattle.book.specs.Views.{Meaning, View}
+-- The lines of a whole file, from its header and its rule.
+use Rattle.std.proofs.Common.{◌≡◌, ℕ, List, ◌++◌, length, drop, Some, None, Ok, Err, Option, Result, ℤ, refl, sym, ap, ◌∙◌, subst, zero-add}
+use Rattle.std.specs.Result.{result_ok}
+use Rattle.market.specs.declared.refusal.Refusal.{Refusal as Unmade}
+use Rattle.formulas.specs.declared.factors.Factors.{Factors}
+use Rattle.formulas.specs.Factors.{factors_of}
+use Rattle.exposure.specs.declared.rates.Rates.{Rates}
+use Rattle.exposure.specs.Rates.{rates_of, rate_worth}
+use Rattle.exposure.specs.Protocol.{protocol_worth}
+use Rattle.prices.specs.declared.fault.Label.TheVariants.{DayAhead, RealTime}
+use Rattle.prices.specs.Pages.{page_entry}
 use Rattle.dayformat.specs.Headers.{Head, header}
-use Rattle.dayformat.specs.Scripts.{script}
+use Rattle.dayformat.specs.Valuations.{Valued, by_rates, by_protocol}
 use Rattle.dayfile.specs.Lines.{closing}
-use Rattle.dayfile.specs.Puts.{over, Wrote, Filled}
-use Rattle.dayfile.specs.Runs.{text, by_opening, under, by_valued, by_header, lines}
+use Rattle.dayfile.specs.Puts.{Wrote, Filled, FilledOr}
+use Rattle.dayfile.specs.Runs.{under, by_made_rates, by_made_factors, by_valued, by_header, lines}
 
 pub filled_first : {bs before now' : List ℕ} {end : ℕ} → Wrote before 0 bs end now' → Filled bs before end now'
 filled_first {bs} {before} {now'} {end} w = record { length_is = w.place ∙ zero-add (length bs); after = w.after ∙ ap (λ (k : ℕ). bs ++ drop k before) (zero-add (length bs)) }
 
-pub filled_as : {a b before now' : List ℕ} {end : ℕ} → a ≡ b → Filled a before end now' → Filled b before end now'
-filled_as {a} {b} {before} {now'} {end} e f = record { length_is = f.length_is ∙ ap length e; after = f.after ∙ ap (λ (t : List ℕ). over t before) e }
+pub filled_as : (other a b before now' : List ℕ) (r : Option ℕ) → b ≡ a → FilledOr other a before r now' → FilledOr other b before r now'
+filled_as other a b before now' r e = subst (λ (t : List ℕ). FilledOr other t before r now') (sym e)
 
 module _ (file : List ℕ) where
-  pub lines_none : header file ≡ None → closing 0 ≡ lines file
+  pub lines_none : header file ≡ None → lines file ≡ closing 0
   unfolding lines
-  lines_none e = sym (ap (by_header file) e)
+  lines_none e = ap (by_header file) e
 
   module _ (h : Head) where
-    pub lines_valued : header file ≡ Some h → by_valued file h h.valued ≡ lines file
-    unfolding lines
-    lines_valued e = sym (ap (by_header file) e)
+    abbrev under_rates : Option Rates → List ℕ
+    under_rates None = closing 0
+    under_rates (Some x) = under file h (rate_worth x)
 
-    module _ (m : Meaning) where
-      pub under_refused : (f : Unopened) → opening_fault h.limit h.rights ≡ Some f → closing 0 ≡ under file h m
-      under_refused f o = sym (ap (by_opening file h m) o)
+    made_rates : (r : Result Rates Unmade) → by_made_rates file h r ≡ under_rates (result_ok r)
+    made_rates (Ok x) = refl
+    made_rates (Err f) = refl
 
-      pub under_opened : (v : View) (calls : List ℕ) → opening_fault h.limit h.rights ≡ None → v ≡ start h.limit h.rights → calls ≡ drop h.length file →
-          text m v (script 2000 (length file) calls) ≡ under file h m
-      under_opened v calls o ev ec =
-          ap (λ (u : View). text m u (script 2000 (length file) calls)) ev
-          ∙ ap (λ (cs : List ℕ). text m (start h.limit h.rights) (script 2000 (length file) cs)) ec
-          ∙ sym (ap (by_opening file h m) o)
+    abbrev under_factors : List ℕ → List ℕ → Option Factors → List ℕ
+    under_factors ahead real None = closing 0
+    under_factors ahead real (Some x) = under file h (protocol_worth (page_entry DayAhead ahead) (page_entry RealTime real) x)
+
+    made_factors : (ahead real : List ℕ) (r : Result Factors Unmade) → by_made_factors file h ahead real r ≡ under_factors ahead real (result_ok r)
+    made_factors ahead real (Ok x) = refl
+    made_factors ahead real (Err f) = refl
+
+    module _ (headed : header file ≡ Some h) where
+      valued : (v : Valued) → h.valued ≡ v → lines file ≡ by_valued file h v
+      unfolding lines
+      valued v e = ap (by_header file) headed ∙ ap (by_valued file h) e
+
+      pub lines_rates : (prices : List ℤ) (o : Option Rates) → h.valued ≡ by_rates prices → result_ok (rates_of prices) ≡ o → lines file ≡ under_rates o
+      lines_rates prices o v e = valued (by_rates prices) v ∙ made_rates (rates_of prices) ∙ ap under_rates e
+
+      pub lines_factors : (e1 e2 e3 : ℕ) (ahead real : List ℕ) (o : Option Factors) → h.valued ≡ by_protocol e1 e2 e3 ahead real → result_ok (factors_of e1 e2 e3) ≡ o → lines file ≡ under_factors ahead real o
+      lines_factors e1 e2 e3 ahead real o v e = valued (by_protocol e1 e2 e3 ahead real) v ∙ made_factors ahead real (factors_of e1 e2 e3) ∙ ap (under_factors ahead real) e

@@ -1,5 +1,5 @@
 -- Bytes written over others. Assumes nothing.
-use Rattle.std.specs.Prelude.{◌≡◌, ℕ, ◌+◌, List, ◌++◌, length, take, drop}
+use Rattle.std.specs.Prelude.{◌≡◌, ℕ, ◌+◌, List, ◌++◌, length, take, drop, Some, None, Option}
 
 -- xs with bs written over it from a place on
 abbrev pub written : List ℕ → ℕ → List ℕ → List ℕ
@@ -18,3 +18,8 @@ pub record Wrote (before : List ℕ) (at : ℕ) (bs : List ℕ) (end : ℕ) (now
 pub record Filled (text before : List ℕ) (count : ℕ) (now' : List ℕ) : Type 0 where
   pub length_is : count ≡ length text
   pub after : now' ≡ over text before
+
+-- the text is written, or it is another text and nothing is written
+abbrev pub FilledOr : List ℕ → List ℕ → List ℕ → Option ℕ → List ℕ → Type 0
+FilledOr other text before None now' = (text ≡ other) × (now' ≡ before)
+FilledOr other text before (Some count) now' = Filled text before count now'

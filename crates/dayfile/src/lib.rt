@@ -2,9 +2,7 @@
 #![tactic(auto)]
 
 mod apply;
-mod digits;
+mod line;
 mod play;
-mod put;
 pub mod refusal;
 pub mod run;
-mod step;

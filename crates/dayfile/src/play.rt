@@ -5,8 +5,8 @@ ghost use Rattle.dayformat.specs.Scripts.{script};
 ghost use Rattle.dayfile.specs.Puts.{Filled};
 ghost use Rattle.dayfile.specs.Runs.{text};
 
-use crate::put::put_closing;
-use crate::step::step;
+use crate::apply::{apply, letter_of, returned};
+use crate::line::{call_line, closing_line, put};
 use book::state::Book;
 use dayformat::calls::next_call;
 use exposure::rule::Rule;
@@ -30,17 +30,17 @@ pub(crate) fn play<R: Rule>(
 {
     let mut rest = calls;
     let mut at = 0;
-    let mut budget = MOST_CALLS;
-    while rest.len() > 0 {
-        if budget == 0 {
-            return put_closing(answer, at, size - rest.len());
-        }
+    for _ in 0..MOST_CALLS {
         let Some((call, after)) = next_call(rest) else {
-            return put_closing(answer, at, size - rest.len());
+            break;
         };
-        at = step(book, rule, call, answer, at);
+        let letter = letter_of(&call);
+        let number = returned(apply(book, rule, call));
+        at = put(answer, at, &call_line(letter, number, book.exposure()));
         rest = after;
-        budget -= 1;
     }
-    at
+    if rest.is_empty() {
+        return at;
+    }
+    put(answer, at, &closing_line(size - rest.len()))
 }

@@ -1,13 +1,12 @@
 // The run of a whole file.
-ghost use Rattle.std.specs.Prelude.{◌≤◌, length, IfOk, slice_index};
-ghost use Rattle.formulas.specs.Factors.{factors_of};
-ghost use Rattle.exposure.specs.Rates.{rates_of};
+ghost use Rattle.std.specs.Prelude.{◌≤◌, length, IfOk, OnSome, IfSome};
 ghost use Rattle.dayformat.specs.Headers.{head_of};
-ghost use Rattle.dayfile.specs.Puts.{Filled};
-ghost use Rattle.dayfile.specs.Runs.{under, by_made_rates, by_made_factors, lines, Answered};
+ghost use Rattle.dayfile.specs.Lines.{closing};
+ghost use Rattle.dayfile.specs.Puts.{FilledOr};
+ghost use Rattle.dayfile.specs.Runs.{under, lines, Answered};
 
+use crate::line::{closing_line, put};
 use crate::play::play;
-use crate::put::put_closing;
 use crate::refusal::Refusal;
 use book::state::{Book, Room};
 use dayformat::header::{Header, Valuation};
@@ -16,115 +15,54 @@ use exposure::protocol::Protocol;
 use exposure::rates::Rates;
 use exposure::rule::Rule;
 use formulas::factors::Factors;
-use market::units::Price;
 use prices::fault::Label;
-use prices::page::{Page, STRETCH_BYTES};
+use prices::page::Page;
 
 // The lines of any file fit so many bytes.
 pub const ANSWER_BYTES: usize = 49_152;
 
-// Opens the book of a header, and makes the calls of its file under a rule.
+// Opens the book of a header, and makes the calls of its file under a rule; none where the book is refused.
 fn open_and_play<R: Rule>(
     room: Room,
-    header: Header,
+    header: &Header,
     rule: &mut R,
     file: &[u8],
     answer: &mut [u8],
-) -> usize
+) -> Option<usize>
     requires room { 49152 ≤ length answer.old }
     requires short { length file.now ≤ 65536 }
-    requires inside { header.length ≤ length file.now }
-    ensures fits { result ≤ 49152 }
-    ensures filled { Filled (under file.now (head_of file.now header) (R.worth rule.old)) answer.old result answer.new }
+    requires inside { length header.now.calls.now ≤ length file.now }
+    ensures fits { IfSome result (λ count. count ≤ 49152) }
+    ensures filled { FilledOr (closing 0) (under file.now (head_of header.now) (R.worth rule.old)) answer.old result answer.new }
 {
-    let Header {
-        limit,
-        rights,
-        count,
-        length,
-        ..
-    } = header;
-    match Book::open(room, limit, &rights[0..count]) {
-        Ok(mut book) => play(&mut book, rule, file.len(), &file[length..], answer),
-        Err(_) => put_closing(answer, 0, 0),
-    }
+    let mut book = Book::open(room, header.limit, &header.rights).ok()?;
+    Some(play(&mut book, rule, file.len(), header.calls, answer))
 }
 
-// The calls of a file under its rates.
-fn play_by_rates(
-    room: Room,
-    header: Header,
-    prices: [Price; 4],
-    file: &[u8],
-    answer: &mut [u8],
-) -> usize
-    requires room { 49152 ≤ length answer.old }
-    requires short { length file.now ≤ 65536 }
-    requires inside { header.length ≤ length file.now }
-    ensures fits { result ≤ 49152 }
-    ensures filled { Filled (by_made_rates file.now (head_of file.now header) (rates_of prices)) answer.old result answer.new }
-{
-    match Rates::make(prices) {
-        Ok(mut rates) => open_and_play(room, header, &mut rates, file, answer),
-        Err(_) => put_closing(answer, 0, 0),
-    }
-}
-
-// The calls of a file under its factors and its two pages, day-ahead and real-time.
-fn play_by_pages(
-    room: Room,
-    header: Header,
-    factors: [u8; 3],
-    ahead: &[u8],
-    real: &[u8],
-    file: &[u8],
-    answer: &mut [u8],
-) -> usize
-    requires room { 49152 ≤ length answer.old }
-    requires short { length file.now ≤ 65536 }
-    requires inside { header.length ≤ length file.now }
-    ensures fits { result ≤ 49152 }
-    ensures filled { Filled (by_made_factors file.now (head_of file.now header) ahead.now real.now (factors_of (slice_index factors 0) (slice_index factors 1) (slice_index factors 2))) answer.old result answer.new }
-{
-    let Ok(factors) = Factors::make(factors[0], factors[1], factors[2]) else {
-        return put_closing(answer, 0, 0);
-    };
-    let day_ahead = Page::new(ahead, Label::DayAhead);
-    let real_time = Page::new(real, Label::RealTime);
-    let mut rule = Protocol {
-        day_ahead,
-        real_time,
-        factors,
-    };
-    open_and_play(room, header, &mut rule, file, answer)
-}
-
-fn fill(room: Room, file: &[u8], answer: &mut [u8]) -> usize
+// Makes the calls of a file under the rule of its header; none where the header is unfit.
+fn play_file(room: Room, file: &[u8], answer: &mut [u8]) -> Option<usize>
     requires { 49152 ≤ length answer.old }
-    ensures fits { result ≤ 49152 }
-    ensures filled { Filled (lines file.now) answer.old result answer.new }
+    ensures fits { IfSome result (λ count. count ≤ 49152) }
+    ensures filled { FilledOr (closing 0) (lines file.now) answer.old result answer.new }
 {
-    let Some(header) = read_header(file) else {
-        return put_closing(answer, 0, 0);
-    };
+    let header = read_header(file)?;
     match header.valuation {
-        Valuation::Rates(prices) => play_by_rates(room, header, prices, file, answer),
+        Valuation::Rates(prices) => {
+            let mut rates = Rates::make(prices).ok()?;
+            open_and_play(room, &header, &mut rates, file, answer)
+        }
         Valuation::Protocol {
             factors,
-            points,
-            pages,
+            day_ahead,
+            real_time,
         } => {
-            let middle = pages + STRETCH_BYTES * points;
-            let end = middle + STRETCH_BYTES * points;
-            play_by_pages(
-                room,
-                header,
-                factors,
-                &file[pages..middle],
-                &file[middle..end],
-                file,
-                answer,
-            )
+            let [e1, e2, e3] = factors;
+            let mut protocol = Protocol {
+                day_ahead: Page::new(day_ahead, Label::DayAhead),
+                real_time: Page::new(real_time, Label::RealTime),
+                factors: Factors::make(e1, e2, e3).ok()?,
+            };
+            open_and_play(room, &header, &mut protocol, file, answer)
         }
     }
 }
@@ -138,5 +76,8 @@ pub fn run(room: Room, file: &[u8], answer: &mut [u8]) -> Result<usize, Refusal>
     if answer.len() < ANSWER_BYTES {
         return Err(Refusal::AnswerTooSmall);
     }
-    Ok(fill(room, file, answer))
+    match play_file(room, file, answer) {
+        Some(count) => Ok(count),
+        None => Ok(put(answer, 0, &closing_line(0))),
+    }
 }

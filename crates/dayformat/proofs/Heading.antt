@@ -26,6 +26,27 @@ some_by false x y e = let z : ◌≡◌ {A = ℕ} 0 1 = cc in absurd (omega arit
 none_past : (n : ℕ) (bs : List ℕ) → length bs ≤ n → None ≡ valued_by (drop n bs)
 none_past n bs h = ap valued_by (sym (drop_of_length-le bs h))
 
+shorter : (n : ℕ) (bs calls : List ℕ) → calls ≡ drop n bs → length calls ≤ length bs
+shorter n bs calls e = let d : length calls ≡ length bs - n = ap length e ∙ length-drop n bs in omega arith
+
+-- the calls lie inside the bytes that bring the rule
+valued_inside : (bs : List ℕ) (v : Valued) (calls : List ℕ) → Some (v, calls) ≡ valued_by bs → length calls ≤ length bs
+valued_inside bs v calls e = by_rates_or (eqb (get_or bs 0 0) 1) e
+  where
+    behind : List ℕ
+    behind = drop 1 bs
+
+    in_all : length calls ≤ length behind → length calls ≤ length bs
+    in_all h = let d : length behind ≡ length bs - 1 = length-drop 1 bs in omega arith
+
+    by_pages_or : (t : Bool) → Some (v, calls) ≡ cond t (pages_valued (drop 1 bs)) None → length calls ≤ length bs
+    by_pages_or true k = in_all (shorter (4 + 5760 * get_or behind 3 0) behind calls (ap (λ (p : Valued × List ℕ). p.1) (some_by _ _ (v, calls) k).1))
+    by_pages_or false k = let z : ◌≡◌ {A = ℕ} 0 1 = cc in absurd (omega arith)
+
+    by_rates_or : (t : Bool) → Some (v, calls) ≡ cond t (rates_valued (drop 1 bs)) (cond (eqb (get_or bs 0 0) 2) (pages_valued (drop 1 bs)) None) → length calls ≤ length bs
+    by_rates_or true k = in_all (shorter 16 behind calls (ap (λ (p : Valued × List ℕ). p.1) (some_by _ _ (v, calls) k).1))
+    by_rates_or false k = by_pages_or (eqb (get_or bs 0 0) 2) k
+
 module _ (bs : List ℕ) where
   abbrev Opens : Type 0
   Opens = (leb 15 (length bs) && marked bs) ≡ true
@@ -75,6 +96,13 @@ module _ (bs : List ℕ) where
     pub too_many : 200 < n → None ≡ header bs
     too_many h = let e : n ≡ le2 bs 13 = opened_by.2 in unless (λ short o few. omega arith)
 
+    pub calls_inside : (behind calls : List ℕ) (v : Valued) → behind ≡ drop (9 * n) rest → Some (v, calls) ≡ valued_by behind → length calls ≤ length bs
+    calls_inside behind calls v past is =
+        let a = valued_inside behind v calls is in
+        let b = shorter (9 * n) rest behind past in
+        let c = shorter 15 bs rest opened_by.3 in
+        omega arith
+
     module _ (short : length bs ≤ 65536) (few : n ≤ 200) where
       -- past these tests the rule byte decides
       past : header bs ≡ head_by bs (valued_by (drop (9 * n) rest))
@@ -109,44 +137,3 @@ module _ (bs : List ℕ) where
           let limits : l ≡ le8_signed bs 5 = same ∙ opened_by.1 in
           let head : ◌≡◌ {A = Option Head} (Some (record { limit = l; rights = rights; valued = v; calls = calls })) (head_by bs (Some (v, calls))) = cc in
           head ∙ ap (head_by bs) (is ∙ ap valued_by cuts.1) ∙ sym past
-
-shorter : (n : ℕ) (bs calls : List ℕ) → calls ≡ drop n bs → length calls ≤ length bs
-shorter n bs calls e = let d : length calls ≡ length bs - n = ap length e ∙ length-drop n bs in omega arith
-
-valued_inside : (bs : List ℕ) (v : Valued) (calls : List ℕ) → Some (v, calls) ≡ valued_by bs → length calls ≤ length bs
-valued_inside bs v calls e = by_rates_or (eqb (get_or bs 0 0) 1) e
-  where
-    behind : List ℕ
-    behind = drop 1 bs
-
-    in_all : length calls ≤ length behind → length calls ≤ length bs
-    in_all h = let d : length behind ≡ length bs - 1 = length-drop 1 bs in omega arith
-
-    by_pages_or : (t : Bool) → Some (v, calls) ≡ cond t (pages_valued (drop 1 bs)) None → length calls ≤ length bs
-    by_pages_or true k = in_all (shorter (4 + 5760 * get_or behind 3 0) behind calls (ap (λ (p : Valued × List ℕ). p.1) (some_by _ _ (v, calls) k).1))
-    by_pages_or false k = let z : ◌≡◌ {A = ℕ} 0 1 = cc in absurd (omega arith)
-
-    by_rates_or : (t : Bool) → Some (v, calls) ≡ cond t (rates_valued (drop 1 bs)) (cond (eqb (get_or bs 0 0) 2) (pages_valued (drop 1 bs)) None) → length calls ≤ length bs
-    by_rates_or true k = in_all (shorter 16 behind calls (ap (λ (p : Valued × List ℕ). p.1) (some_by _ _ (v, calls) k).1))
-    by_rates_or false k = by_pages_or (eqb (get_or bs 0 0) 2) k
-
-abbrev calls_in : Option Head → List ℕ
-calls_in None = []
-calls_in (Some x) = x.calls
-
-headed_by : (bs : List ℕ) (o : Option (Valued × List ℕ)) (h : Head) → head_by bs o ≡ Some h → (v : Valued) × (Some (v, h.calls) ≡ o)
-headed_by bs None h e = let z : ◌≡◌ {A = ℕ} 0 1 = cc in absurd (omega arith)
-headed_by bs (Some p) h e = (p.0, ap Some (ap (λ (l : List ℕ). (p.0, l)) (sym (ap calls_in e))))
-
--- the calls of a header lie inside its file
-pub header_inside : (bs : List ℕ) (h : Head) → header bs ≡ Some h → (length h.calls ≤ length bs) × (length bs ≤ 65536)
-unfolding header
-header_inside bs h e = go (headed bs) refl e
-  where
-    go : (t : Bool) → headed bs ≡ t → cond t (head_by bs (valued_by (drop (15 + 9 * le2 bs 13) bs))) None ≡ Some h → (length h.calls ≤ length bs) × (length bs ≤ 65536)
-    go true t k =
-        let v = headed_by bs (valued_by (drop (15 + 9 * le2 bs 13) bs)) h k in
-        let inside = valued_inside (drop (15 + 9 * le2 bs 13) bs) v.0 h.calls v.1 in
-        let d : length (drop (15 + 9 * le2 bs 13) bs) ≡ length bs - (15 + 9 * le2 bs 13) = length-drop (15 + 9 * le2 bs 13) bs in
-        (omega arith, leb-true _ _ (and_parts _ _ t).0)
-    go false t k = let z : ◌≡◌ {A = ℕ} 0 1 = cc in absurd (omega arith)

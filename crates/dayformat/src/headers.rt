@@ -1,5 +1,5 @@
 // Reading the header of a file.
-ghost use Rattle.std.specs.Prelude.{◌≡◌};
+ghost use Rattle.std.specs.Prelude.{◌≡◌, ◌≤◌, length, IfSome};
 ghost use Rattle.std.specs.Option.{option_map};
 ghost use Rattle.dayformat.specs.Headers.{opened, opened_of, header, head_of};
 ghost use Rattle.dayformat.specs.Valuations.{rates_valued, pages_valued, valued_by, valued_of};
@@ -80,6 +80,8 @@ fn read_valuation(bytes: &[u8]) -> Option<(Valuation<'_>, &[u8])>
 // The header that a file opens with; none where it is cut, or its mark, version, count or rule is unfit.
 pub fn read_header(file: &[u8]) -> Option<Header<'_>>
     ensures value { option_map head_of result ≡ header file.now }
+    ensures short { IfSome result (λ h. length file.now ≤ 65536) }
+    ensures inside { IfSome result (λ h. length h.calls.now ≤ length file.now) }
 {
     if file.len() > MOST_BYTES {
         return None;

@@ -1,40 +1,21 @@
-use Rattle.std.proofs.Common.{◌-◌, length, refl, ◌∙◌, arith}
-use Rattle.dayfile.proofs.Going.{going_none, going_step, going_done, going_full, going_bad, closing_short}
+-- A turn of the loop writes the line of a call; what follows the loop is the end of the file or the closing line.
+use Rattle.std.proofs.Common.{◌≡◌, ◌-◌, ◌⊎◌, None, inl, inr, ◌∙◌, arith, rules}
+use Rattle.dayformat.specs.Calls.{first_call}
+use Rattle.dayfile.proofs.Going.{going_more, going_done, going_ends}
 use Rattle.dayfile.proofs.play.play.Goals as goal
+use Rattle.dayfile.proofs.play.play.Goals.{else-loop-test, then-loop-test+in_default}
 
-pub loop-rest-init : goal.loop-rest-init
-loop-rest-init g c = (going_none _ _ _ _ _ c.requires.inside, refl)
+pub loop-preserved : goal.loop-preserved
+loop-preserved g c = (
+  going_more c.loop.invariant.0 c.loop.invariant.1 (omega arith) c.in-Some.ensures.reads c.put-at.ensures (c.deref.ensures.0 ∙ c.call_line.ensures) c.letter_of-letter.ensures (c.returned-number.ensures.value ∙ c.apply.ensures.number) c.returned-number.ensures.short
+      (search rules) (search rules) c.apply.ensures.after,
+  c.apply.ensures.kept ∙ c.loop.invariant.1,
+)
 
-pub put_closing-requires : goal.put_closing-requires
-put_closing-requires g c =
-    let s = closing_short (c.args.size - length c.loop-rest.rest.now) (omega arith) in
-    let f = c.loop-rest.invariant.0.fits in
-    omega arith
+pub returns-then-is_empty-clause-filled : goal.returns-then-is_empty-clause-filled
+returns-then-is_empty-clause-filled g c = going_done c.loop.invariant.0 (search rules)
 
-pub returns-then-budget-eq0 : goal.returns-then-budget-eq0
-returns-then-budget-eq0 g c = record {
-  fits = let s = closing_short (c.args.size - length c.loop-rest.rest.now) (omega arith) in let f = c.loop-rest.invariant.0.fits in let p = c.put_closing.ensures.place in omega arith;
-  filled = going_full c.loop-rest.invariant.0 c.loop-rest-test.true c.if-budget-eq0.true c.put_closing.ensures;
-}
-
-pub put_closing-requires-in_default : goal.put_closing-requires-in_default
-put_closing-requires-in_default g c =
-    let s = closing_short (c.args.size - length c.loop-rest.rest.now) (omega arith) in
-    let f = c.loop-rest.invariant.0.fits in
-    omega arith
-
-pub returns-in_default : goal.returns-in_default
-returns-in_default g c = record {
-  fits = let s = closing_short (c.args.size - length c.loop-rest.rest.now) (omega arith) in let f = c.loop-rest.invariant.0.fits in let p = c.put_closing-in_default.ensures.place in omega arith;
-  filled = going_bad c.loop-rest.invariant.0 c.loop-rest-test.true c.in_default.ensures.reads c.put_closing-in_default.ensures;
-}
-
-pub loop-rest-preserved : goal.loop-rest-preserved
-loop-rest-preserved g c =
-    let n = c.in-Some.ensures.reads in (
-      going_step c.loop-rest.invariant.0 c.loop-rest.invariant.1 c.loop-rest-test.true (omega arith) n.0 n.1 c.step-at.ensures.line c.step-at.ensures.short c.step-at.ensures.after,
-      c.step-at.ensures.kept ∙ c.loop-rest.invariant.1,
-    )
-
-pub returns : goal.returns
-returns g c = record { fits = let f = c.loop-rest.invariant.0.fits in omega arith; filled = going_done c.loop-rest.invariant.0 (omega arith) }
+pub returns-clause-filled : goal.returns-clause-filled
+returns-clause-filled g c =
+    let why : (2000 - c.loop.counter ≡ 0) ⊎ (first_call c.loop.rest.now ≡ None) = elim c.loop-test.branch [ else-loop-test w ↦ inl (search rules) | then-loop-test+in_default w ↦ inr (search rules) ] in
+    going_ends c.loop.invariant.0 (search rules) why c.put.ensures (c.deref-2.ensures.0 ∙ c.closing_line.ensures)
