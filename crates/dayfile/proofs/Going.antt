@@ -109,12 +109,12 @@ pub going_done : {m : Meaning} {whole before : List ℕ} {size : ℕ} {v : View}
 going_done {m} {whole} {before} {size} {v} {rest} {answer} {at} {budget} g none =
     let f = g.written_so_far in
     let e : whole ≡ f = g.all ∙ ap (λ (s : Script). f ++ text m v s) (script_none budget size rest none) ∙ ap (λ (t : List ℕ). f ++ t) (text_done m v) ∙ append-nil f in
-    record { length_is = g.place ∙ ap length (sym e); after = g.stands ∙ ap (λ (t : List ℕ). over t before) (sym e) }
+    record { length_is = g.place ∙ ap length (sym e); after = g.stands ∙ ap (λ (t : List ℕ). over t before) (sym e); fits = let q = g.fits in omega arith }
 
 pub going_ends : {m : Meaning} {whole before bs : List ℕ} {size : ℕ} {v : View} {rest answer answer' : List ℕ} {at end budget : ℕ} →
-    Going m whole before size v rest answer at budget → 0 < length rest → (budget ≡ 0) ⊎ (first_call rest ≡ None) →
+    Going m whole before size v rest answer at budget → 0 < length rest → (budget ≡ 0) ⊎ (first_call rest ≡ None) → size ≤ 65536 →
     Wrote answer at bs end answer' → bs ≡ closing (size - length rest) → Filled whole before end answer'
-going_ends {m} {whole} {before} {bs} {size} {v} {rest} {answer} {answer'} {at} {end} {budget} g some why w is =
+going_ends {m} {whole} {before} {bs} {size} {v} {rest} {answer} {answer'} {at} {end} {budget} g some why short w is =
     let f = g.written_so_far in
     let l = closing (size - length rest) in
     let e : whole ≡ f ++ l = g.all ∙ ap (λ (s : Script). f ++ text m v s) (script_ends budget size rest some why) ∙ ap (λ (t : List ℕ). f ++ t) (text_cut m v (size - length rest)) in
@@ -125,4 +125,5 @@ going_ends {m} {whole} {before} {bs} {size} {v} {rest} {answer} {answer'} {at} {
     record {
       length_is = long ∙ ap length (sym e);
       after = w.after ∙ ap (λ (xs : List ℕ). written xs at bs) g.stands ∙ ap (λ (xs : List ℕ). written (over f before) at xs) is ∙ over_then f l before at (sym g.place) ∙ ap (λ (t : List ℕ). over t before) (sym e);
+      fits = let f = g.fits in let c = closing_short (size - length rest) (omega arith) in omega (arith, ap length is);
     }

@@ -1,5 +1,5 @@
 -- The lines of a whole file, from its header and its rule.
-use Rattle.std.proofs.Common.{◌≡◌, ℕ, List, ◌++◌, length, drop, Some, None, Ok, Err, Option, Result, ℤ, refl, sym, ap, ◌∙◌, subst, zero-add}
+use Rattle.std.proofs.Common.{◌≡◌, ℕ, List, Some, None, Ok, Err, Option, Result, ℤ, refl, sym, ap, ◌∙◌, subst}
 use Rattle.std.specs.Result.{result_ok}
 use Rattle.market.specs.declared.refusal.Refusal.{Refusal as Unmade}
 use Rattle.formulas.specs.declared.factors.Factors.{Factors}
@@ -12,11 +12,8 @@ use Rattle.prices.specs.Pages.{page_entry}
 use Rattle.dayformat.specs.Headers.{Head, header}
 use Rattle.dayformat.specs.Valuations.{Valued, by_rates, by_protocol}
 use Rattle.dayfile.specs.Lines.{closing}
-use Rattle.dayfile.specs.Puts.{Wrote, Filled, FilledOr}
+use Rattle.dayfile.specs.Puts.{FilledOr}
 use Rattle.dayfile.specs.Runs.{under, by_made_rates, by_made_factors, by_valued, by_header, lines}
-
-pub filled_first : {bs before now' : List ℕ} {end : ℕ} → Wrote before 0 bs end now' → Filled bs before end now'
-filled_first {bs} {before} {now'} {end} w = record { length_is = w.place ∙ zero-add (length bs); after = w.after ∙ ap (λ (k : ℕ). bs ++ drop k before) (zero-add (length bs)) }
 
 pub filled_as : (other a b before now' : List ℕ) (r : Option ℕ) → b ≡ a → FilledOr other a before r now' → FilledOr other b before r now'
 filled_as other a b before now' r e = subst (λ (t : List ℕ). FilledOr other t before r now') (sym e)

@@ -1,5 +1,5 @@
 -- Bytes written over others. Assumes nothing.
-use Rattle.std.specs.Prelude.{◌≡◌, ℕ, ◌+◌, List, ◌++◌, length, take, drop, Some, None, Option}
+use Rattle.std.specs.Prelude.{◌≡◌, ℕ, ◌+◌, ◌≤◌, List, ◌++◌, length, take, drop, Some, None, Option}
 
 -- xs with bs written over it from a place on
 abbrev pub written : List ℕ → ℕ → List ℕ → List ℕ
@@ -14,10 +14,11 @@ pub record Wrote (before : List ℕ) (at : ℕ) (bs : List ℕ) (end : ℕ) (now
   pub place : end ≡ at + length bs
   pub after : now' ≡ written before at bs
 
--- the text is written at the start, and count is its length
+-- the text is written at the start, and count is its length, at most 49,152
 pub record Filled (text before : List ℕ) (count : ℕ) (now' : List ℕ) : Type 0 where
   pub length_is : count ≡ length text
   pub after : now' ≡ over text before
+  pub fits : count ≤ 49152
 
 -- the text is written, or it is another text and nothing is written
 abbrev pub FilledOr : List ℕ → List ℕ → List ℕ → Option ℕ → List ℕ → Type 0

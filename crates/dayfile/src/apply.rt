@@ -46,8 +46,5 @@ pub(crate) fn returned(answer: Result<(), CallRefusal>) -> u8
     ensures value { result ≡ call_returned answer }
     ensures short { result < 100 }
 {
-    match answer {
-        Ok(()) => 0,
-        Err(refusal) => refusal.number(),
-    }
+    answer.map_or_else(CallRefusal::number, |()| 0)
 }

@@ -25,8 +25,7 @@ pub(crate) fn play<R: Rule>(
     requires room { 49152 ≤ length answer.old }
     requires short { size ≤ 65536 }
     requires inside { length calls.now ≤ size }
-    ensures fits { result ≤ 49152 }
-    ensures filled { Filled (text (R.worth rule.old) (view book.old) (script 2000 size calls.now)) answer.old result answer.new }
+    ensures { Filled (text (R.worth rule.old) (view book.old) (script 2000 size calls.now)) answer.old result answer.new }
 {
     let mut rest = calls;
     let mut at = 0;

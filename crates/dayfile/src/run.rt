@@ -32,8 +32,7 @@ fn open_and_play<R: Rule>(
     requires room { 49152 ≤ length answer.old }
     requires short { length file.now ≤ 65536 }
     requires inside { length header.now.calls.now ≤ length file.now }
-    ensures fits { IfSome result (λ count. count ≤ 49152) }
-    ensures filled { FilledOr (closing 0) (under file.now (head_of header.now) (R.worth rule.old)) answer.old result answer.new }
+    ensures { FilledOr (closing 0) (under file.now (head_of header.now) (R.worth rule.old)) answer.old result answer.new }
 {
     let mut book = Book::open(room, header.limit, &header.rights).ok()?;
     Some(play(&mut book, rule, file.len(), header.calls, answer))
@@ -42,8 +41,7 @@ fn open_and_play<R: Rule>(
 // Makes the calls of a file under the rule of its header; none where the header is unfit.
 fn play_file(room: Room, file: &[u8], answer: &mut [u8]) -> Option<usize>
     requires { 49152 ≤ length answer.old }
-    ensures fits { IfSome result (λ count. count ≤ 49152) }
-    ensures filled { FilledOr (closing 0) (lines file.now) answer.old result answer.new }
+    ensures { FilledOr (closing 0) (lines file.now) answer.old result answer.new }
 {
     let header = read_header(file)?;
     match header.valuation {

@@ -12,10 +12,10 @@ loop-preserved g c = (
   c.apply.ensures.kept ∙ c.loop.invariant.1,
 )
 
-pub returns-then-is_empty-clause-filled : goal.returns-then-is_empty-clause-filled
-returns-then-is_empty-clause-filled g c = going_done c.loop.invariant.0 (search rules)
+pub returns-then-is_empty : goal.returns-then-is_empty
+returns-then-is_empty g c = going_done c.loop.invariant.0 (search rules)
 
-pub returns-clause-filled : goal.returns-clause-filled
-returns-clause-filled g c =
+pub returns : goal.returns
+returns g c =
     let why : (2000 - c.loop.counter ≡ 0) ⊎ (first_call c.loop.rest.now ≡ None) = elim c.loop-test.branch [ else-loop-test w ↦ inl (search rules) | then-loop-test+in_default w ↦ inr (search rules) ] in
-    going_ends c.loop.invariant.0 (search rules) why c.put.ensures (c.deref-2.ensures.0 ∙ c.closing_line.ensures)
+    going_ends c.loop.invariant.0 (search rules) why c.requires.short c.put.ensures (c.deref-2.ensures.0 ∙ c.closing_line.ensures)
