@@ -1,3 +1,4 @@
 pub mod Writing
 pub mod Going
 pub mod Opening
+pub mod Answering

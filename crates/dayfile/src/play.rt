@@ -7,6 +7,7 @@ ghost use Rattle.dayfile.specs.Runs.{text};
 
 use crate::apply::{apply, letter_of, returned};
 use crate::line::{call_line, closing_line, put};
+use crate::run::ANSWER_BYTES;
 use book::state::Book;
 use dayformat::calls::next_call;
 use exposure::rule::Rule;
@@ -20,9 +21,8 @@ pub(crate) fn play<R: Rule>(
     rule: &mut R,
     size: usize,
     calls: &[u8],
-    answer: &mut [u8],
+    answer: &mut [u8; ANSWER_BYTES],
 ) -> usize
-    requires room { 49152 ≤ length answer.old }
     requires short { size ≤ 65536 }
     requires inside { length calls.now ≤ size }
     ensures { Filled (text (R.worth rule.old) (view book.old) (script 2000 size calls.now)) answer.old result answer.new }

@@ -27,9 +27,8 @@ fn open_and_play<R: Rule>(
     header: &Header,
     rule: &mut R,
     file: &[u8],
-    answer: &mut [u8],
+    answer: &mut [u8; ANSWER_BYTES],
 ) -> Option<usize>
-    requires room { 49152 ≤ length answer.old }
     requires short { length file.now ≤ 65536 }
     requires inside { length header.now.calls.now ≤ length file.now }
     ensures { FilledOr (closing 0) (under file.now (head_of header.now) (R.worth rule.old)) answer.old result answer.new }
@@ -39,8 +38,7 @@ fn open_and_play<R: Rule>(
 }
 
 // Makes the calls of a file under the rule of its header; none where the header is unfit.
-fn play_file(room: Room, file: &[u8], answer: &mut [u8]) -> Option<usize>
-    requires { 49152 ≤ length answer.old }
+fn play_file(room: Room, file: &[u8], answer: &mut [u8; ANSWER_BYTES]) -> Option<usize>
     ensures { FilledOr (closing 0) (lines file.now) answer.old result answer.new }
 {
     let header = read_header(file)?;
@@ -71,11 +69,11 @@ pub fn run(room: Room, file: &[u8], answer: &mut [u8]) -> Result<usize, Refusal>
     ensures answered { Answered (lines file.now) answer.old result answer.new }
     ensures fits { IfOk result (λ count. count ≤ 49152) }
 {
-    if answer.len() < ANSWER_BYTES {
-        return Err(Refusal::AnswerTooSmall);
-    }
-    match play_file(room, file, answer) {
+    let lines = answer
+        .first_chunk_mut::<ANSWER_BYTES>()
+        .ok_or(Refusal::AnswerTooSmall)?;
+    match play_file(room, file, lines) {
         Some(count) => Ok(count),
-        None => Ok(put(answer, 0, &closing_line(0))),
+        None => Ok(put(lines, 0, &closing_line(0))),
     }
 }
