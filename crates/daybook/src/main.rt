@@ -15,12 +15,8 @@ fn answer_input(rt: &HostRuntime) -> anyhow::Result<()> {
     let mut file = Vec::new(heap);
     rt.stdin().take(INPUT_BYTES).read_to_end(&mut file)?;
     let mut answer = vec![in heap; 0u8; ANSWER_BYTES]?;
-    let Ok(room) = Room::reserve(heap) else {
-        return Err(anyhow!("no memory for a book"));
-    };
-    let Ok(count) = run(room, &file, &mut answer) else {
-        return Err(anyhow!("too few answer bytes"));
-    };
+    let room = Room::reserve(heap).map_err(|_| anyhow!("no memory for a book"))?;
+    let count = run(room, &file, &mut answer).map_err(|_| anyhow!("too few answer bytes"))?;
     let mut out = rt.stdout();
     out.write_all(&answer[0..count])?;
     out.flush()?;
