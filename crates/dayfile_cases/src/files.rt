@@ -9,45 +9,42 @@ use std::test::Fail;
 const HEADER: &[u8] = b"DCB\x01\x00\x80\x96\x98\x00\x00\x00\x00\x00\x00\x00\x01\
     \x64\x00\x00\x00\x00\x00\x00\x00\xce\xff\xff\xff\xc8\x00\x00\x00";
 
-// The header, and one call: a submission of one step, a withdrawal, a limit.
-const SUBMIT: &[u8] = b"DCB\x01\x00\x80\x96\x98\x00\x00\x00\x00\x00\x00\x00\x01\
-    \x64\x00\x00\x00\x00\x00\x00\x00\xce\xff\xff\xff\xc8\x00\x00\x00\
-    S\x07\x00\x00\x00\x01\x01\x01\x01\x00\x00\x00\x00\x01\xe8\x03\x00\x00\xf4\x01\x00\x00";
+// A call: a submission of one step, a withdrawal, a limit.
+const SUBMIT: &[u8] =
+    b"S\x07\x00\x00\x00\x01\x01\x01\x01\x00\x00\x00\x00\x01\xe8\x03\x00\x00\xf4\x01\x00\x00";
 
-const WITHDRAW: &[u8] = b"DCB\x01\x00\x80\x96\x98\x00\x00\x00\x00\x00\x00\x00\x01\
-    \x64\x00\x00\x00\x00\x00\x00\x00\xce\xff\xff\xff\xc8\x00\x00\x00\
-    W\x07\x00\x00\x00";
+const WITHDRAW: &[u8] = b"W\x07\x00\x00\x00";
 
-const LIMIT: &[u8] = b"DCB\x01\x00\x80\x96\x98\x00\x00\x00\x00\x00\x00\x00\x01\
-    \x64\x00\x00\x00\x00\x00\x00\x00\xce\xff\xff\xff\xc8\x00\x00\x00\
-    L\xe8\x03\x00\x00\x00\x00\x00\x00";
+const LIMIT: &[u8] = b"L\xe8\x03\x00\x00\x00\x00\x00\x00";
 
 // What the answer holds before a run.
 const OLD: u8 = 7;
 
-fn reserved(heap: Global) -> Result<Room, Fail> {
-    match Room::reserve(heap) {
-        Ok(room) => Ok(room),
-        Err(_) => Err(Fail::new("no memory")),
-    }
-}
-
 // Whether a file yields just these lines, and leaves what is past them.
 fn yields(heap: Global, file: &[u8], lines: &[u8]) -> Result<bool, Fail> {
-    let room = reserved(heap)?;
+    let room = Room::reserve(heap)?;
     let mut answer = vec![in heap; OLD; 49_153]?;
-    match run(room, file, &mut answer) {
-        Ok(count) => Ok(count == lines.len() && answer.starts_with(lines) && answer[count] == OLD),
-        Err(_) => Ok(false),
+    let ran = run(room, file, &mut answer);
+    Ok(ran.is_ok_and(|count| {
+        count == lines.len() && answer.starts_with(lines) && answer[count] == OLD
+    }))
+}
+
+// The header and then bytes, with so many copies of them.
+fn repeated(heap: Global, bytes: &[u8], times: u16) -> Result<Vec<u8>, Fail> {
+    let mut file = Vec::from_slice(heap, HEADER)?;
+    for _ in 0..times {
+        file.extend_from_slice(bytes)?;
     }
+    Ok(file)
 }
 
 #[test]
 fn calls_yield_lines(rt: HostRuntime) -> Result<(), Fail> {
     let heap = rt.alloc();
-    assert!(rt; yields(heap, SUBMIT, b"S 0 10000000\n")?);
-    assert!(rt; yields(heap, WITHDRAW, b"W 23 0\n")?);
-    assert!(rt; yields(heap, LIMIT, b"L 0 0\n")?);
+    assert!(rt; yields(heap, &repeated(heap, SUBMIT, 1)?, b"S 0 10000000\n")?);
+    assert!(rt; yields(heap, &repeated(heap, WITHDRAW, 1)?, b"W 23 0\n")?);
+    assert!(rt; yields(heap, &repeated(heap, LIMIT, 1)?, b"L 0 0\n")?);
     Ok(())
 }
 
@@ -79,9 +76,9 @@ fn cut_everywhere(heap: Global, file: &[u8]) -> Result<bool, Fail> {
 #[test]
 fn a_cut_call_at_every_byte(rt: HostRuntime) -> Result<(), Fail> {
     let heap = rt.alloc();
-    assert!(rt; cut_everywhere(heap, SUBMIT)?);
-    assert!(rt; cut_everywhere(heap, WITHDRAW)?);
-    assert!(rt; cut_everywhere(heap, LIMIT)?);
+    assert!(rt; cut_everywhere(heap, &repeated(heap, SUBMIT, 1)?)?);
+    assert!(rt; cut_everywhere(heap, &repeated(heap, WITHDRAW, 1)?)?);
+    assert!(rt; cut_everywhere(heap, &repeated(heap, LIMIT, 1)?)?);
     Ok(())
 }
 
@@ -106,15 +103,6 @@ fn unfit_headers(rt: HostRuntime) -> Result<(), Fail> {
     Ok(())
 }
 
-// The header and then bytes, with so many copies of them.
-fn repeated(heap: Global, bytes: &[u8], times: u16) -> Result<Vec<u8>, Fail> {
-    let mut file = Vec::from_slice(heap, HEADER)?;
-    for _ in 0..times {
-        file.extend_from_slice(bytes)?;
-    }
-    Ok(file)
-}
-
 #[test]
 fn unknown_letters_end_the_lines(rt: HostRuntime) -> Result<(), Fail> {
     let heap = rt.alloc();
@@ -130,13 +118,13 @@ fn unknown_letters_end_the_lines(rt: HostRuntime) -> Result<(), Fail> {
 #[test]
 fn two_thousand_calls_and_no_more(rt: HostRuntime) -> Result<(), Fail> {
     let heap = rt.alloc();
-    let most = repeated(heap, b"W\x07\x00\x00\x00", 2000)?;
-    let more = repeated(heap, b"W\x07\x00\x00\x00", 2001)?;
-    let room = reserved(heap)?;
+    let most = repeated(heap, WITHDRAW, 2000)?;
+    let more = repeated(heap, WITHDRAW, 2001)?;
+    let room = Room::reserve(heap)?;
     let mut answer = vec![in heap; OLD; 49_152]?;
     // 2,000 lines of seven bytes.
     assert_eq!(rt; run(room, &most, &mut answer), Ok(14_000));
-    let room = reserved(heap)?;
+    let room = Room::reserve(heap)?;
     // The 2,001st call stands at 32 + 2,000 · 5.
     assert_eq!(rt; run(room, &more, &mut answer), Ok(14_011));
     assert!(rt; answer[14_000..14_011].starts_with(b"X 51 10032\n"));
@@ -157,12 +145,10 @@ fn the_longest_file(rt: HostRuntime) -> Result<(), Fail> {
 #[test]
 fn a_small_answer_is_left_as_it_was(rt: HostRuntime) -> Result<(), Fail> {
     let heap = rt.alloc();
-    let room = reserved(heap)?;
+    let file = repeated(heap, SUBMIT, 1)?;
+    let room = Room::reserve(heap)?;
     let mut answer = vec![in heap; OLD; 49_151]?;
-    assert_eq!(rt;
-        run(room, SUBMIT, &mut answer),
-        Err(Refusal::AnswerTooSmall)
-    );
+    assert_eq!(rt; run(room, &file, &mut answer), Err(Refusal::AnswerTooSmall));
     assert!(rt;
         answer.iter().copied().max() == Some(OLD) && answer.iter().copied().min() == Some(OLD)
     );
