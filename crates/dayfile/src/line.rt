@@ -9,7 +9,7 @@ use itoa::Buffer;
 // A letter, the three digits of a byte and the twenty of an exposure, two spaces and a newline.
 pub(crate) type Line = ArrayString<27>;
 
-// `write!` would do, but no contract says that it succeeds where there is room.
+// The line of a call. `write!` was tried: its contract does not say that it succeeds where there is room.
 pub(crate) fn call_line(letter: char, number: u8, exposure: i64) -> Line
     requires { letter < 128 }
     ensures { result.bytes ≡ line letter number exposure }
