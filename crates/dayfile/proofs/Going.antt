@@ -1,6 +1,6 @@
 -- The run of a file, call by call.
 use Rattle.std.proofs.Common.{◌≡◌, ℕ, zero, suc, ◌+◌, ◌-◌, ◌*◌, ◌<◌, ◌≤◌, List, [], ◌∷◌, ◌++◌, length, ℤ, Some, None, decimal, Option, sym, refl, ap, ◌∙◌, append_assoc, ◌⊎◌, inl, inr, append-nil, arith, lit<, length-append}
-use lib.Signed.{mag}
+use Rattle.std.specs.Int.Signed.{mag}
 use Rattle.std.specs.Fmt.{signed_decimal}
 use Rattle.std.proofs.lemmas.Fmt.{length-decimal-le, length_signed_le}
 use Rattle.book.specs.Sums.{sum}

@@ -1,6 +1,6 @@
 -- A file has a header where each test of the definition is passed, and none where one fails.
 use Rattle.std.proofs.Common.{◌≡◌, ℕ, ◌+◌, ◌-◌, ◌*◌, ◌/◌, ◌<◌, ◌≤◌, Bool, true, false, cond, ◌&&◌, eqb, leb, List, map, length, get_or, take, drop, ℤ, Some, None, Option, sym, refl, ap, ◌∙◌, arith, length-drop, le-leb, leb-true, eqb-true, to_z, w64}
-use borrow.Author.Tests.{both_ways}
+use Rattle.std.proofs.lemmas.Bool.{both_ways}
 use Rattle.std.proofs.Math.ListN.{drop_of_length-le}
 use Rattle.std.specs.Simd.{first_chunks}
 use Rattle.std.proofs.lemmas.List.{drop-drop, length-take-le}

@@ -1,7 +1,7 @@
 -- The call that bytes open with is what the letter's pattern reads: the letter settles which clause of
 -- the definition holds, and the pattern's length that the call is not cut.
 use Rattle.std.proofs.Common.{◌≡◌, ℕ, ◌+◌, ◌-◌, ◌*◌, ◌/◌, ◌<◌, ◌≤◌, Bool, true, false, cond, eqb, leb, List, map, length, get_or, take, drop, Some, None, sym, refl, ap, ◌∙◌, arith, length-drop, eqb-true, le-leb, leb-true}
-use borrow.Author.Tests.{lt-leb}
+use Rattle.std.proofs.lemmas.Bool.{lt-leb}
 use Rattle.std.proofs.lemmas.List.{drop-drop, take_rest, length-take-le}
 use Rattle.std.proofs.lemmas.Bool.{cond-true, cond-false}
 use Rattle.market.specs.declared.kind.Figures.{Figures}

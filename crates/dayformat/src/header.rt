@@ -3,7 +3,7 @@ use arrayvec::ArrayVec;
 use market::right::Right;
 use market::units::Price;
 
-pub const MOST_RIGHTS: usize = 200;
+pub use market::right::MOST_RIGHTS;
 
 // What the file values submissions by.
 #[derive(Clone, Copy)]

@@ -1,7 +1,7 @@
 -- Thirty answers of a record are its days where the point is known, and else each is its fault; so the
 -- percentile of what was gathered is the figure.
 use Rattle.std.proofs.Common.{◌≡◌, ℕ, ◌+◌, ◌<◌, Bool, cond, ◌≢◌, List, length, get_or, set, ℤ, None, Some, Ok, Err, Option, Result, refl, sym, ap, ◌∙◌, arith, length-set, get_or-set_other, get_or-set_same, below_more}
-use lib.Signed.{le_z}
+use Rattle.std.specs.Int.Signed.{le_z}
 use Rattle.std.proofs.lemmas.Int.{ints}
 use Rattle.std.proofs.lemmas.List.FromFn.{fill_by_all}
 use Rattle.std.specs.Ordering.{is_le, int_cmp}

@@ -4,8 +4,8 @@ use Rattle.std.proofs.lemmas.Bool.{and_from, false_from_ne_true}
 use Rattle.std.specs.List.{EachIndex}
 use Rattle.market.specs.Facts.{left_of, right_of}
 use Rattle.market.specs.Units.{price_fits}
-use mathlib.Core.Bool.{Bool-set}
-use borrow.Author.Tests.{both_ways}
+use Rattle.std.proofs.Math.Bool.{Bool-set}
+use Rattle.std.proofs.lemmas.Bool.{both_ways}
 use Rattle.market.specs.declared.refusal.Refusal.TheVariants.{OutOfRange}
 use Rattle.exposure.specs.Ranges.{rates_fit}
 use Rattle.exposure.specs.Rates.{rates_by, rates_of}

@@ -1,6 +1,6 @@
 -- Why the protocol rule stays within 10^14 grains: its figures are in range, and so are its formulas. Assumes nothing.
 use Rattle.std.specs.Prelude.{◌≡◌, ℕ, ◌≤◌, Bool, true, false, cond, ℤ, Ok, Err, Result, nat_lt, refl}
-use borrow.Author.Tests.{ltb-false}
+use Rattle.std.proofs.lemmas.Bool.{ltb-false}
 use Rattle.std.proofs.Common.{lit≤}
 use Rattle.market.specs.declared.curve.Curve.{Curve}
 use Rattle.market.specs.declared.kind.Kind.{Kind}

@@ -11,13 +11,7 @@ use crate::rule::Rule;
 use market::kind::Kind;
 use market::refusal::Refusal;
 use market::submission::Submission;
-use market::units::{MOST_PRICE, Price, Tenths};
-
-fn price_fits(price: Price) -> bool
-    ensures { result ≡ price_fits price }
-{
-    -MOST_PRICE <= price && price <= MOST_PRICE
-}
+use market::units::{Price, Tenths, price_fits};
 
 fn all_fit(prices: [Price; 4]) -> bool
     ensures { IsTrue result ↔ EachIndex prices (λ k. price_fits (slice_index_or prices k (pos 0)) ≡ true) }

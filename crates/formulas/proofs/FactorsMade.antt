@@ -1,8 +1,8 @@
 -- Factors are made just where their test passes; equal hundredths make equal factors, since the proofs
 -- that they carry are of propositions.
 use Rattle.std.proofs.Common.{◌≡◌, ℕ, ◌≤◌, Bool, true, false, ◌&&◌, leb, Ok, Err, refl, ap, ◌∙◌, le-leb, leb-true}
-use native.Mathlib.Bridge.{le_prop}
-use borrow.Author.Tests.{both_ways}
+use Rattle.std.proofs.Math.Bridge.{le_prop}
+use Rattle.std.proofs.lemmas.Bool.{both_ways}
 use Rattle.market.specs.declared.refusal.Refusal.TheVariants.{OutOfRange}
 use Rattle.market.specs.Facts.{left_of, right_of}
 use Rattle.formulas.specs.declared.factors.Factors.{Factors}

@@ -1,7 +1,7 @@
 -- What the tests leave of a block's formula.
 use Rattle.std.proofs.Common.{◌≡◌, ℕ, true, false, ℤ, pos, ◌+ℤ◌, neg_ℤ, refl}
-use lib.IntN.{+ℤ_idr}
-use lib.Signed.{le_z, lt_z}
+use Rattle.std.proofs.Math.IntN.{+ℤ_idr}
+use Rattle.std.specs.Int.Signed.{le_z, lt_z}
 use Rattle.formulas.specs.Kinds.{grains, credit, offer_block, three_part_block}
 
 pub credit_above : (e m : ℕ) (b : ℤ) → lt_z (pos 0) b ≡ true → credit e b m ≡ neg_ℤ (grains e b m)

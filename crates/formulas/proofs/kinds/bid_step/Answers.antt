@@ -1,5 +1,5 @@
 use Rattle.std.proofs.Common.{◌≡◌, ◌*◌, ◌≤◌, false, pos, ◌+ℤ◌, ◌-ℤ◌, sym, ap, ◌∙◌, arith, lit≤, w32, w64, to_z, of_z}
-use lib.Signed.{le_z}
+use Rattle.std.specs.Int.Signed.{le_z}
 use Rattle.std.proofs.lemmas.Int.{ints, clamps, to_z-of_z}
 use Rattle.std.specs.Int.{int_max, int_min}
 use Rattle.market.specs.Bounds.{Bounded, bounded_less, bounded_sum, bounded_max, bounded_zero, wider}

@@ -1,5 +1,5 @@
 use Rattle.std.proofs.Common.{◌≡◌, true, false, ◌+ℤ◌, sym, ◌∙◌, arith, w32, w64, to_z, of_z}
-use lib.Signed.{le_z}
+use Rattle.std.specs.Int.Signed.{le_z}
 use Rattle.std.proofs.lemmas.Int.{ints}
 use Rattle.formulas.specs.Kinds.{grains, credit}
 use Rattle.formulas.proofs.Terms.{offer_taken, offer_left}
