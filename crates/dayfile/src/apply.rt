@@ -10,6 +10,7 @@ use crate::refusal::CallRefusal;
 use book::state::Book;
 use dayformat::call::Call;
 use exposure::rule::Rule;
+use market::step::Step;
 use market::submission::Submission;
 
 pub(crate) fn letter_of(call: &Call) -> char
@@ -24,13 +25,13 @@ pub(crate) fn letter_of(call: &Call) -> char
 
 // Makes a call.
 pub(crate) fn apply<R: Rule>(book: &mut Book, rule: &mut R, call: Call) -> Result<(), CallRefusal>
-    ensures number { call_returned result ≡ told (view book.old) (asked (R.worth rule.old) (means call)) }
-    ensures after { view book.new ≡ left (view book.old) (asked (R.worth rule.old) (means call)) }
+    ensures number { call_returned result ≡ told (view book.old) (asked (R.worth rule.old) (means call.entry)) }
+    ensures after { view book.new ≡ left (view book.old) (asked (R.worth rule.old) (means call.entry)) }
     ensures kept { R.worth rule.new ≡ R.worth rule.old }
 {
     match call {
         Call::Submit { figures, steps } => {
-            let submission = Submission::make(figures, &steps)?;
+            let submission = Submission::make(figures, &steps.read::<Step>())?;
             book.submit(rule, submission)?;
         }
         Call::Withdraw(number) => {

@@ -15,6 +15,7 @@ use exposure::protocol::Protocol;
 use exposure::rates::Rates;
 use exposure::rule::Rule;
 use formulas::factors::Factors;
+use market::right::Right;
 use prices::fault::Label;
 use prices::page::Page;
 
@@ -33,7 +34,8 @@ fn open_and_play<R: Rule>(
     requires inside { length header.now.calls.now ≤ length file.now }
     ensures { FilledOr (closing 0) (under file.now (head_of header.now) (R.worth rule.old)) answer.old result answer.new }
 {
-    let mut book = Book::open(room, header.limit, &header.rights).ok()?;
+    let rights = header.rights.read::<Right>();
+    let mut book = Book::open(room, header.limit, &rights).ok()?;
     Some(play(&mut book, rule, file.len(), header.calls, answer))
 }
 

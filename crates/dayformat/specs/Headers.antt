@@ -48,4 +48,4 @@ abbrev pub opened_of : ℤ × ℕ × Bor (List ℕ) → ℤ × ℕ × List ℕ
 opened_of p = (p.0, p.1, p.2.now)
 
 abbrev pub head_of : Header → Head
-head_of h = record { limit = h.limit; rights = h.rights.items; valued = meant h.valuation; calls = h.calls.now }
+head_of h = record { limit = h.limit; rights = map right_of h.rights.bytes.now; valued = meant h.valuation; calls = h.calls.now }

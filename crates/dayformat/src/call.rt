@@ -1,16 +1,16 @@
 // A call as the file has it.
-use arrayvec::ArrayVec;
+use crate::packed::STEP_BYTES;
+use crate::records::Records;
 use market::kind::Figures;
-use market::step::Step;
 
 // So many steps fit the byte that counts them.
 pub const MOST_FILED_STEPS: usize = 255;
 
-#[derive(Drop)]
-pub enum Call {
+#[derive(Clone, Copy)]
+pub enum Call<'a> {
     Submit {
         figures: Figures,
-        steps: ArrayVec<Step, MOST_FILED_STEPS>,
+        steps: Records<'a, STEP_BYTES, MOST_FILED_STEPS>,
     },
     Withdraw(u32),
     Limit(i64),

@@ -5,11 +5,11 @@ ghost use Rattle.dayformat.specs.Filed.{means};
 
 use crate::call::Call;
 pub use crate::packed::STEP_BYTES;
-use crate::packed::read_all;
+use crate::records::Records;
 use market::kind::Figures;
 
 // The call that bytes open with, and what follows it; none where the letter is unknown or the call is cut.
-pub fn next_call(bytes: &[u8]) -> Option<(Call, &[u8])>
+pub fn next_call(bytes: &[u8]) -> Option<(Call<'_>, &[u8])>
     ensures reads { elim result [ Some p ↦ ((first_call bytes.now ≡ Some (means p.0, p.1.now)) × (length p.1.now < length bytes.now)) | None ↦ first_call bytes.now ≡ None ] }
 {
     match bytes {
@@ -40,7 +40,9 @@ pub fn next_call(bytes: &[u8]) -> Option<(Call, &[u8])>
                 claim: *claim,
             };
             let (steps, rest) = rest.split_at_checked(STEP_BYTES * *count as usize)?;
-            let steps = read_all(steps.as_chunks::<STEP_BYTES>().0);
+            let steps = Records {
+                bytes: steps.as_chunks::<STEP_BYTES>().0,
+            };
             Some((Call::Submit { figures, steps }, rest))
         }
         [b'W', n0, n1, n2, n3, rest @ ..] => {

@@ -1,9 +1,8 @@
 // The header of a file, its figures not yet tested.
-use arrayvec::ArrayVec;
-use market::right::Right;
-use market::units::Price;
-
+use crate::packed::RIGHT_BYTES;
+use crate::records::Records;
 pub use market::right::MOST_RIGHTS;
+use market::units::Price;
 
 // What the file values submissions by.
 #[derive(Clone, Copy)]
@@ -19,10 +18,10 @@ pub enum Valuation<'a> {
 }
 
 // The calls are the rest of the file.
-#[derive(Drop)]
+#[derive(Clone, Copy)]
 pub struct Header<'a> {
     pub limit: i64,
-    pub rights: ArrayVec<Right, MOST_RIGHTS>,
+    pub rights: Records<'a, RIGHT_BYTES, MOST_RIGHTS>,
     pub valuation: Valuation<'a>,
     pub calls: &'a [u8],
 }

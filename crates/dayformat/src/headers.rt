@@ -5,7 +5,8 @@ ghost use Rattle.dayformat.specs.Headers.{opened, opened_of, header, head_of};
 ghost use Rattle.dayformat.specs.Valuations.{rates_valued, pages_valued, valued_by, valued_of};
 
 use crate::header::{Header, MOST_RIGHTS, Valuation};
-use crate::packed::{RIGHT_BYTES, read_all};
+use crate::packed::RIGHT_BYTES;
+use crate::records::Records;
 
 pub const MOST_BYTES: usize = 65_536;
 
@@ -95,7 +96,9 @@ pub fn read_header(file: &[u8]) -> Option<Header<'_>>
     let (valuation, calls) = read_valuation(rest)?;
     Some(Header {
         limit,
-        rights: read_all(rights.as_chunks::<RIGHT_BYTES>().0),
+        rights: Records {
+            bytes: rights.as_chunks::<RIGHT_BYTES>().0,
+        },
         valuation,
         calls,
     })

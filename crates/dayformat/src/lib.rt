@@ -5,4 +5,5 @@ pub mod call;
 pub mod calls;
 pub mod header;
 pub mod headers;
-mod packed;
+pub mod packed;
+pub mod records;

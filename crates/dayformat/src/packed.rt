@@ -1,17 +1,19 @@
 // Records of a fixed number of bytes, one behind the other. Numbers have their lowest byte first.
-ghost use Rattle.std.specs.Prelude.{◌≡◌, ℕ, ◌≤◌, List, map, length};
+ghost use Rattle.std.specs.Prelude.{◌≡◌, ℕ, List, map};
 ghost use Rattle.dayformat.specs.Headers.{right_of};
 ghost use Rattle.dayformat.specs.Steps.{step_of};
 
+use crate::records::Records;
 use arrayvec::ArrayVec;
 use market::right::{PathHour, Right};
 use market::step::Step;
 
 pub const STEP_BYTES: usize = 8;
 
-pub(crate) const RIGHT_BYTES: usize = 9;
+pub const RIGHT_BYTES: usize = 9;
 
-pub(crate) trait Packed<const SIZE: usize>: Copy + Default {
+// What is read from a record of so many bytes.
+pub trait Packed<const SIZE: usize>: Copy + Default {
     // What the bytes of a record say.
     ghost of: { List ℕ → Self };
 
@@ -44,16 +46,15 @@ impl Packed<RIGHT_BYTES> for Right {
     }
 }
 
-// All the records.
-pub(crate) fn read_all<T: Packed<SIZE>, const SIZE: usize, const MOST: usize>(
-    records: &[[u8; SIZE]],
-) -> ArrayVec<T, MOST>
-    requires { length records.now ≤ MOST }
-    ensures { result.items ≡ map T.of records.now }
-{
-    let mut read = ArrayVec::new();
-    for record in records {
-        read.push(T::read(record));
+impl<'a, const SIZE: usize, const MOST: usize> Records<'a, SIZE, MOST> {
+    // What is read from each, in order.
+    pub fn read<T: Packed<SIZE>>(&self) -> ArrayVec<T, MOST>
+        ensures { result.items ≡ map T.of self.now.bytes.now }
+    {
+        let mut read = ArrayVec::new();
+        for record in self.bytes {
+            read.push(T::read(record));
+        }
+        read
     }
-    read
 }
