@@ -1,13 +1,15 @@
 -- Cross-multiplication orders fractions: a chain of two comparisons, each multiplied by the bottom that it
 -- lacks, gives the third with a factor above 0 on both sides, which goes out. Assumes nothing.
-use Rattle.std.specs.Prelude.{◌≡◌, ℕ, ◌*◌, ◌<◌, ◌≤◌}
+use Rattle.std.specs.Prelude.{◌≡◌, ℕ, ◌*◌, ◌<◌, ◌≤◌, Bool, true, false, not, T, ◌⊎◌, nat_le}
+use Rattle.std.proofs.Math.Dec.{nleb→lt}
+use Rattle.ranking.specs.Order.{TotalOrder}
 use Rattle.std.specs.declared.cmp.Ordering.TheVariants.{Less, Equal}
 use Rattle.std.specs.Cmp.{IsTotalOrder, nat_cmp_total}
 use Rattle.std.specs.Ordering.{nat_cmp, MatchOrdering}
-use Rattle.std.proofs.Common.{sym, ap, ◌∙◌, le_of_mul-le-mul_right, mul-le-mul_right, mul_comm, mul_assoc, arith}
+use Rattle.std.proofs.Common.{sym, ap, ◌∙◌, inl, inr, leb→le, le→leb, le_of_mul-le-mul_right, mul-le-mul_right, mul_comm, mul_assoc, arith}
 use Rattle.std.proofs.lemmas.Bool.Decides.{nat_tests}
 use Rattle.std.proofs.lemmas.Cmp.{ranked}
-use Rattle.factors.specs.Ratios.{crossed}
+use Rattle.factors.specs.Ratios.{not_above, crossed}
 
 -- the last two factors change places
 swapped : (a b c : ℕ) → (a * b) * c ≡ (a * c) * b
@@ -20,6 +22,21 @@ through a b c d e f proper h k =
     let q : (c * f) * b ≤ (e * d) * b = mul-le-mul_right b k in
     let r : (a * f) * d ≤ (e * b) * d = omega (arith, p, q, swapped c b f, swapped a f d, swapped e b d) in
     le_of_mul-le-mul_right r proper
+
+told : (b : Bool) → T b ⊎ T (not b)
+told true = inl tt
+told false = inr tt
+
+pub one_way : (a b : ℕ) → T (nat_le a b) ⊎ T (nat_le b a)
+one_way a b = elim (told (nat_le a b)) [ inl t ↦ inl t | inr n ↦ let h = nleb→lt a b n in inr (le→leb b a (omega arith)) ]
+
+-- products of numbers compare, and a ratio's bottom is above 0: so "at most" is a total order of ratios
+pub not_above_total : TotalOrder not_above
+not_above_total = record {
+  compares = λ x y. one_way (x.top * y.bottom) (y.top * x.bottom);
+  transitive = λ x y z h k.
+      le→leb _ _ (through x.top x.bottom y.top y.bottom z.top z.bottom y.proper (leb→le _ _ h) (leb→le _ _ k));
+}
 
 less : (a b : ℕ) → nat_cmp a b ≡ Less → a < b
 less a b e = let m : MatchOrdering Less (a < b) (a ≡ b) (b < a) = ranked a b Less (sym e) in m
@@ -39,7 +56,7 @@ alike : (a b c d : ℕ)
     → nat_cmp a b ≡ nat_cmp c d
 alike a b c d f g h k = grind (arith, nat_tests)
 
--- so cross-multiplication is a total order, whose equal fractions are equal values
+-- and how ratios compare meets what `Ord` asks: those that are equal are equal values
 pub crossed_total : IsTotalOrder crossed
 crossed_total = record {
   antisymm = λ x y. nat_cmp_total.antisymm (x.top * y.bottom) (y.top * x.bottom);
