@@ -54,7 +54,7 @@ fn bid(number: u32) -> Result<Submission, Fail> {
     Ok(Submission::make(figures, &[one])?)
 }
 
-// A point-to-point bid on the path and hour, at a price.
+// A point-to-point bid on the path and hour, at a price. The claim is the figure as it comes.
 fn claiming(number: u32, claim: u8, quantity: u32, price: i32) -> Result<Submission, Fail> {
     let figures = Figures {
         number,

@@ -13,6 +13,7 @@ use exposure::rule::Rule;
 use market::step::Step;
 use market::submission::Submission;
 
+// A letter of the file. `Display` for one letter would be no plainer.
 pub(crate) fn letter_of(call: &Call) -> char
     ensures { result ≡ letter (means call.now) }
 {

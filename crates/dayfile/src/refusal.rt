@@ -6,16 +6,14 @@ ghost use Rattle.dayfile.specs.Numbers.{number_of, call_number};
 #[derive(Clone, Copy, PartialEq, Eq, Debug)]
 pub enum Refusal {
     // The answer bytes are fewer than the lines of a file may need.
-    AnswerTooSmall,
+    AnswerTooSmall = 52,
 }
 
 impl Refusal {
     pub fn number(self) -> u8
         ensures { result ≡ number_of self }
     {
-        match self {
-            Refusal::AnswerTooSmall => 52,
-        }
+        self as u8
     }
 }
 

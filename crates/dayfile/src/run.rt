@@ -74,6 +74,7 @@ pub fn run(room: Room, file: &[u8], answer: &mut [u8]) -> Result<usize, Refusal>
     let lines = answer
         .first_chunk_mut::<ANSWER_BYTES>()
         .ok_or(Refusal::AnswerTooSmall)?;
+    // `unwrap_or_else` was tried, and that proof didn't close: what its closure leaves of the bytes is out of reach.
     match play_file(room, file, lines) {
         Some(count) => Ok(count),
         None => Ok(put(lines, 0, &closing_line(0))),

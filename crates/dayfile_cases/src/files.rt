@@ -56,6 +56,7 @@ fn a_header_alone_yields_nothing(rt: HostRuntime) -> Result<(), Fail> {
 
 #[test]
 fn a_cut_header_at_every_byte(rt: HostRuntime) -> Result<(), Fail> {
+    // n is the length that is left, and indexes nothing.
     for n in 0..32 {
         assert!(rt; HEADER.len() == 32);
         assert!(rt; yields(rt.alloc(), &HEADER[0..n], b"X 51 0\n")?);
@@ -65,6 +66,7 @@ fn a_cut_header_at_every_byte(rt: HostRuntime) -> Result<(), Fail> {
 
 // Whether each cut of a file's one call, whose letter stands at 32, closes the lines there.
 fn cut_everywhere(heap: Global, file: &[u8]) -> Result<bool, Fail> {
+    // n is the length that is left, and indexes nothing.
     for n in 33..file.len() {
         if !yields(heap, &file[0..n], b"X 51 32\n")? {
             return Ok(false);

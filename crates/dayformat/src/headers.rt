@@ -7,13 +7,11 @@ ghost use Rattle.dayformat.specs.Valuations.{rates_valued, pages_valued, valued_
 use crate::header::{Header, MOST_RIGHTS, Valuation};
 use crate::packed::RIGHT_BYTES;
 use crate::records::Records;
+use prices::page::STRETCH_BYTES;
 
 pub const MOST_BYTES: usize = 65_536;
 
-pub const MOST_POINTS: usize = 8;
-
-// A page has so many bytes a point.
-const POINT_BYTES: usize = 2880;
+pub use prices::page::POINTS as MOST_POINTS;
 
 // The limit and how many rights follow, behind the mark and the version, and what is behind them.
 fn opening(file: &[u8]) -> Option<(i64, u16, &[u8])>
@@ -54,8 +52,8 @@ fn read_pages(bytes: &[u8]) -> Option<(Valuation<'_>, &[u8])>
     if points < 1 || points > MOST_POINTS {
         return None;
     }
-    let (day_ahead, rest) = pages.split_at_checked(POINT_BYTES * points)?;
-    let (real_time, calls) = rest.split_at_checked(POINT_BYTES * points)?;
+    let (day_ahead, rest) = pages.split_at_checked(STRETCH_BYTES * points)?;
+    let (real_time, calls) = rest.split_at_checked(STRETCH_BYTES * points)?;
     let factors = [*e1, *e2, *e3];
     Some((
         Valuation::Protocol {

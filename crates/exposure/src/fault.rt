@@ -10,7 +10,8 @@ use prices::fault::RecordFault;
 pub enum RuleFault {
     // A price record does not know a point.
     UnknownPoint(RecordFault),
-    // A percentile, by its letter, has no days to rank at a point and an hour.
+    // A percentile, by its letter, has no days to rank at a point and an hour. The letter is a char by a rule of
+    // the project: letters stand for percentiles.
     NoDays {
         letter: char,
         point: Point,
@@ -21,6 +22,7 @@ pub enum RuleFault {
 }
 
 impl RuleFault {
+    // A case that brings something has no discriminant, so the numbers stand here and not in the enum.
     pub fn number(self) -> u8
         ensures { result ≡ fault_number self }
     {

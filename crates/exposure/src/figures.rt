@@ -21,7 +21,8 @@ pub(crate) struct Place<R> {
 }
 
 impl<R: Record> Place<R> {
-    // What the thirty days have. No heap: the array has room for each.
+    // What the thirty days have. No heap: the array has room for each. The day is what is asked, and its place
+    // follows from it.
     fn gather(&self) -> Result<[Option<Price>; DAYS as usize], RecordFault>
         ensures { result ≡ gathered (R.Record.meaning self.now.record self.now.point) self.now.hour }
     {

@@ -4,7 +4,8 @@ ghost use Rattle.exposure.specs.Ranges.{rates_fit};
 
 use market::units::Price;
 
-// The prices go by kind: energy bid, energy-only offer, three-part offer, point-to-point bid.
+// The prices go by kind: energy bid, energy-only offer, three-part offer, point-to-point bid. Callers and files have
+// them in a row, so four fields with names would be no plainer.
 #[derive(Clone, Copy)]
 pub struct Rates {
     pub(crate) prices: [Price; 4],

@@ -9,7 +9,8 @@ use market::submission::Submission;
 use market::units::Tenths;
 
 // `worth` is the meaning of a rule: from a submission and its covered tenths to grains, or to a fault.
-// `within` shows that the grains lie within 10^14 of 0. Asking keeps the meaning.
+// `within` shows that the grains lie within 10^14 of 0. Asking keeps the meaning, and each function that hands a
+// rule on says so too: no type says of a `&mut` what stays.
 pub trait Rule {
     ghost worth: { Self → Submitted → ℕ → Result ℤ Fault };
 

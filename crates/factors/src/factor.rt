@@ -11,7 +11,8 @@ use ranking::percentile::percentile;
 
 pub const MOST_DAYS: usize = 30;
 
-// The days' ratios, from the first place on. No heap: the array has room for the most days.
+// The days' ratios, from the first place on. No heap: the array has room for the most days. Its places were tried
+// by `iter_mut().zip(days)`, and that proof didn't close: what a lent place ends as is not known in the loop.
 fn gathered<D: Rated>(days: &[D]) -> [Option<Ratio>; MOST_DAYS]
     requires { length days.now ≤ 30 }
     ensures { take (length days.now) result ≡ map D.rating days.now }
@@ -35,7 +36,8 @@ fn factor<D: Rated>(days: &[D], p: u8) -> Result<u8, NoDays>
     Ok(in_hundredths(ratio))
 }
 
-// The 95th percentile of the first ratio.
+// The 95th percentile of the first ratio. This and the next two are `factor` under the names that callers know: a
+// percentile as an argument would let a wrong one in, and be no plainer.
 pub fn default_e1(days: &[Dollars]) -> Result<u8, NoDays>
     ensures { result ≡ default_e1 days.now }
 {

@@ -6,6 +6,7 @@ ghost use Rattle.factors.specs.Days.{first_ratio, second_ratio};
 use crate::days::{Dollars, Quantities};
 use crate::ratio::Ratio;
 
+// The two differ in their ratio and in its test, and so in more than a type.
 pub(crate) trait Rated: Copy {
     ghost rating: { Self → Option Ratio };
 
@@ -17,10 +18,7 @@ impl Rated for Dollars {
     ghost rating = { first_ratio };
 
     fn ratio(&self) -> Option<Ratio> {
-        if !self.fit() {
-            return None;
-        }
-        Some(self.first())
+        self.fit().then(|| self.first())
     }
 }
 
@@ -28,9 +26,6 @@ impl Rated for Quantities {
     ghost rating = { second_ratio };
 
     fn ratio(&self) -> Option<Ratio> {
-        if !self.fit() {
-            return None;
-        }
-        Some(self.second())
+        self.fit().then(|| self.second())
     }
 }

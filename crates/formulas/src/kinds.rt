@@ -1,4 +1,5 @@
-// The exposure of each kind.
+// The exposure of each kind. Each contract states the bound of its result: callers take a plain i64, and a type of grains
+// would be opened wherever it came.
 ghost use Rattle.std.specs.Prelude.{◌≡◌, ◌≤◌, IfSome, if◌then◌else◌, Some, None, nat_lt};
 ghost use Rattle.market.specs.Bounds.{Bounded};
 ghost use Rattle.market.specs.Orders.{Fit};
@@ -77,8 +78,5 @@ pub fn point_to_point(curve: &Curve, w: Figure, cover: Tenths) -> Option<i64>
     ensures size { IfSome result (λ x. Bounded 100000000000000 x) }
 {
     let step = curve.last();
-    if cover > step.quantity {
-        return None;
-    }
-    Some(path_step(step, w, cover))
+    (cover <= step.quantity).then(|| path_step(step, w, cover))
 }

@@ -11,7 +11,7 @@ use prices::flat::Flat;
 use prices::page::Page;
 use std::test::Fail;
 
-// A submission of one step for hour 7, at point 2 or from point 2 to a sink.
+// A submission of one step for hour 7, at point 2 or from point 2 to a sink. The kind is the figure as it comes.
 fn submission(kind: u8, sink: u16, quantity: u32, price: i32) -> Result<Submission, Fail> {
     let figures = Figures {
         number: 1,
