@@ -41,11 +41,11 @@ fn keeps_rules(side: Side, steps: &[Step]) -> bool
 }
 
 // The steps from the first place on, and blank steps behind them.
-fn packed(steps: &[Step]) -> [Step; 10]
+fn packed(steps: &[Step]) -> [Step; MOST_STEPS]
     requires { length steps.now ≤ 10 }
     ensures { result ≡ padded steps.now }
 {
-    let mut held = [Step::default(); 10];
+    let mut held = [Step::default(); MOST_STEPS];
     held[..steps.len()].copy_from_slice(steps);
     held
 }
