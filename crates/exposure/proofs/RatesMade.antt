@@ -1,6 +1,7 @@
 -- Rates are made just where each price is in range.
-use Rattle.std.proofs.Common.{◌≡◌, ℕ, zero, suc, ◌<◌, Bool, true, false, List, length, get_or, ℤ, pos, Ok, Err, refl, ap, arith}
+use Rattle.std.proofs.Common.{◌≡◌, ℕ, zero, suc, ◌<◌, Bool, true, false, List, length, get_or, ℤ, pos, Ok, Err, ◌↔◌, true≢false, sym, refl, ap, arith}
 use Rattle.std.proofs.lemmas.Bool.{and_from, false_from_ne_true}
+use Rattle.std.specs.Bool.{IsTrue}
 use Rattle.std.specs.List.{EachIndex}
 use Rattle.market.specs.Facts.{left_of, right_of}
 use Rattle.market.specs.Units.{price_fits}
@@ -21,12 +22,16 @@ each_of ps t (suc (suc zero)) h = left_of (fits_at ps 2) _ (right_of (fits_at ps
 each_of ps t (suc (suc (suc zero))) h = right_of (fits_at ps 2) _ (right_of (fits_at ps 1) _ (right_of (fits_at ps 0) _ t))
 each_of ps t (suc (suc (suc (suc k)))) h = absurd (omega arith)
 
-pub fit_from_each : (ps : List ℤ) → length ps ≡ 4 → EachIndex ps (λ k. price_fits (get_or ps k (pos 0)) ≡ true) → rates_fit ps ≡ true
+fit_from_each : (ps : List ℤ) → length ps ≡ 4 → EachIndex ps (λ k. price_fits (get_or ps k (pos 0)) ≡ true) → rates_fit ps ≡ true
 fit_from_each ps long each =
     and_from (fits_at ps 0) _ (each 0 (omega arith)) (and_from (fits_at ps 1) _ (each 1 (omega arith)) (and_from (fits_at ps 2) (fits_at ps 3) (each 2 (omega arith)) (each 3 (omega arith))))
 
-pub not_fit : (ps : List ℤ) → length ps ≡ 4 → (EachIndex ps (λ k. price_fits (get_or ps k (pos 0)) ≡ true) → ⊥) → rates_fit ps ≡ false
+not_fit : (ps : List ℤ) → length ps ≡ 4 → (EachIndex ps (λ k. price_fits (get_or ps k (pos 0)) ≡ true) → ⊥) → rates_fit ps ≡ false
 not_fit ps long none = false_from_ne_true (rates_fit ps) (λ t. none (λ k h. each_of ps t k (omega arith)))
+
+pub fit_by : (ps : List ℤ) → length ps ≡ 4 → (b : Bool) → (IsTrue b ↔ EachIndex ps (λ k. price_fits (get_or ps k (pos 0)) ≡ true)) → b ≡ rates_fit ps
+fit_by ps long true e = sym (fit_from_each ps long (e.0 refl))
+fit_by ps long false e = sym (not_fit ps long (λ each. true≢false (sym (e.1 each))))
 
 module _ (ps : List ℤ) where
   by_true : (fit : rates_fit ps ≡ true) (test : Bool) (e : rates_fit ps ≡ test) → test ≡ true → Ok (record { prices = ps; fit = fit }) ≡ rates_by ps test e

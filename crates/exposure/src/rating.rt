@@ -1,6 +1,5 @@
 // Making rates, and the rule that values by them.
-ghost use Rattle.std.specs.Prelude.{◌≡◌, ◌≤◌, true, pos, negsuc, ◌≤ℤ◌, ◌↔◌, IsTrue, EachIndex, slice_index_or};
-ghost use Rattle.market.specs.Units.{price_fits};
+ghost use Rattle.std.specs.Prelude.{◌≡◌, ◌≤◌, pos, negsuc, ◌≤ℤ◌};
 ghost use Rattle.exposure.specs.Ranges.{rates_fit};
 ghost use Rattle.exposure.specs.Rates.{rates_of, rate_for, in_grains, rate_worth};
 ghost use Rattle.exposure.specs.RateBounds.{rated_within};
@@ -14,7 +13,7 @@ use market::submission::Submission;
 use market::units::{Price, Tenths, price_fits};
 
 fn all_fit(prices: [Price; 4]) -> bool
-    ensures { IsTrue result ↔ EachIndex prices (λ k. price_fits (slice_index_or prices k (pos 0)) ≡ true) }
+    ensures { result ≡ rates_fit prices }
 {
     prices.iter().all(|price| price_fits(*price))
 }
