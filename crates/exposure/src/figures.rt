@@ -12,7 +12,7 @@ use prices::record::Record;
 use ranking::letters::percent_of;
 use ranking::percentile::percentile;
 
-// A record at a point and an hour.
+// A record at a point and an hour. It is asked by letters, which are chars as the faults have them.
 #[derive(Clone, Copy)]
 pub(crate) struct Place<R> {
     pub(crate) record: R,

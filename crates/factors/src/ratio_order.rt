@@ -1,5 +1,5 @@
 // Ratios compare by cross-multiplication, so that none is rounded before it is ranked. Equal ones have
-// equal values: 1/2 is 2/4.
+// equal values, 1/2 is 2/4, and so no derive compares them.
 ghost use Rattle.std.specs.Prelude.{refl};
 ghost use Rattle.std.specs.Cmp.{partial_equiv_from_equiv, partial_order_from_agreeing_total};
 ghost use Rattle.std.specs.Ordering.{as_partial_cmp, eq_by_cmp};

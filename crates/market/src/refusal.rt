@@ -16,6 +16,8 @@ pub enum Refusal {
 }
 
 impl Refusal {
+    // Each refusal and fault of the repository has such a method of its own: a trait of them all would have to be in
+    // scope wherever a number is asked, and be no plainer.
     pub fn number(self) -> u8
         ensures { result ≡ number_of self }
     {

@@ -57,6 +57,7 @@ impl Kind {
         }
     }
 
+    // A method: `From` would not say what the side of a kind is for, and be no plainer.
     fn side(self) -> Side
         ensures { result ≡ side_of self }
     {
