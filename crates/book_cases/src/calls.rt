@@ -271,8 +271,8 @@ fn a_refused_claim_keeps_no_cover(rt: HostRuntime) -> Result<(), Fail> {
     Ok(())
 }
 
-// The number that an opening returns: 0 where a book opens. The number of making a submission is another type's;
-// a trait for the two would be no plainer.
+// The number that an opening returns: 0 where a book opens. The number of making a submission is another type's, and
+// a trait for the two would be longer than both.
 fn number(opening: Result<Book, Refusal>) -> u8 {
     opening.map_or_else(|refusal| refusal.number(), |_| 0)
 }

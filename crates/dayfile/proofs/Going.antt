@@ -73,9 +73,6 @@ pub record Going (m : Meaning) (whole before : List ℕ) (size : ℕ) (v : View)
   pub fits : at + 24 * budget ≤ 48000
   pub inside : length rest ≤ size
 
-pub going_none : (m : Meaning) (before : List ℕ) (size : ℕ) (v : View) (rest : List ℕ) → length rest ≤ size → Going m (text m v (script 2000 size rest)) before size v rest before 0 2000
-going_none m before size v rest h = record { written_so_far = []; place = refl; stands = refl; all = refl; fits = omega arith; inside = h }
-
 -- a call is made, and its line is written
 pub going_more : {m m' : Meaning} {whole before bs : List ℕ} {size : ℕ} {v v' : View} {rest rest' answer answer' : List ℕ} {at at' budget budget' : ℕ} {k : Filed} {c n : ℕ} {x : ℤ} →
     Going m whole before size v rest answer at budget → m' ≡ m → budget ≡ budget' + 1 →

@@ -59,7 +59,7 @@ text m v (then k s) = call_line m v k ++ text m (left v (asked m k)) s
 
 -- a header whose book opens is followed by its calls, under the rule's meaning
 abbrev pub by_opening : List ℕ → Head → Meaning → Option Unopened → List ℕ
-by_opening file h m None = text m (start h.limit h.rights) (script 2000 (length file) (h.calls))
+by_opening file h m None = text m (start h.limit h.rights) (script 2000 (length file) h.calls)
 by_opening file h m (Some f) = closing 0
 
 abbrev pub under : List ℕ → Head → Meaning → List ℕ

@@ -37,7 +37,8 @@ pub(crate) fn closing_line(place: usize) -> Line
     text
 }
 
-// Writes a text from a place on, and returns the place after it.
+// Writes a text from a place on, and returns the place after it. The place is handed on as a number: a type of the
+// answer and its place would hold a `&mut` between the calls that are made, and be no plainer.
 pub(crate) fn put(answer: &mut [u8], at: usize, text: &str) -> usize
     requires { at + length text.now ≤ length answer.old }
     ensures { Wrote answer.old at text.now result answer.new }

@@ -30,6 +30,7 @@ pub(crate) fn play<R: Rule>(
     let mut rest = calls;
     let mut at = 0;
     for _ in 0..MOST_CALLS {
+        // The loop ends here and not the function, as it would by `?`: the closing line is still to be written.
         let Some((call, after)) = next_call(rest) else {
             break;
         };

@@ -26,6 +26,7 @@ pub(crate) enum CallRefusal {
 }
 
 impl CallRefusal {
+    // The number of the refusal within: a case that brings something has no discriminant.
     pub(crate) fn number(self) -> u8
         ensures { result ≡ call_number self }
     {

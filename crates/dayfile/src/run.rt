@@ -1,5 +1,5 @@
 // The run of a whole file.
-ghost use Rattle.std.specs.Prelude.{◌≤◌, length, IfOk, OnSome, IfSome};
+ghost use Rattle.std.specs.Prelude.{◌≤◌, length, IfOk};
 ghost use Rattle.dayformat.specs.Headers.{head_of};
 ghost use Rattle.dayfile.specs.Lines.{closing};
 ghost use Rattle.dayfile.specs.Puts.{FilledOr};
@@ -22,7 +22,9 @@ use prices::page::Page;
 // The lines of any file fit so many bytes.
 pub const ANSWER_BYTES: usize = 49_152;
 
-// Opens the book of a header, and makes the calls of its file under a rule; none where the book is refused.
+// Opens the book of a header, and makes the calls of its file under a rule; none where the book is refused. What is asked
+// of file and calls is what `read_header` promises of them, and it goes on to `play`; that and room, file and answer
+// go on as they are: a type would be made in one step and opened in the next.
 fn open_and_play<R: Rule>(
     room: Room,
     header: &Header,

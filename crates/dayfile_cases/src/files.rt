@@ -56,7 +56,7 @@ fn a_header_alone_yields_nothing(rt: HostRuntime) -> Result<(), Fail> {
 
 #[test]
 fn a_cut_header_at_every_byte(rt: HostRuntime) -> Result<(), Fail> {
-    // n is the length that is left, and indexes nothing.
+    // n is the length of the cut file: there is nothing to go through but the lengths.
     for n in 0..32 {
         assert!(rt; HEADER.len() == 32);
         assert!(rt; yields(rt.alloc(), &HEADER[0..n], b"X 51 0\n")?);
@@ -66,7 +66,7 @@ fn a_cut_header_at_every_byte(rt: HostRuntime) -> Result<(), Fail> {
 
 // Whether each cut of a file's one call, whose letter stands at 32, closes the lines there.
 fn cut_everywhere(heap: Global, file: &[u8]) -> Result<bool, Fail> {
-    // n is the length that is left, and indexes nothing.
+    // n is the length of the cut file: there is nothing to go through but the lengths.
     for n in 33..file.len() {
         if !yields(heap, &file[0..n], b"X 51 32\n")? {
             return Ok(false);
@@ -196,14 +196,9 @@ fn paged(heap: Global, points: u8) -> Result<Vec<u8>, Fail> {
         b"DCB\x01\x00\x00\xe1\xf5\x05\x00\x00\x00\x00\x00\x00\x02\x3c\x14\x64",
     )?;
     file.push(points)?;
-    for _ in 0..points {
-        for _ in 0..720 {
-            file.extend_from_slice(b"\xa0\x0f\x00\x00")?;
-        }
-    }
-    for _ in 0..points {
-        for _ in 0..720 {
-            file.extend_from_slice(b"\xc0\x12\x00\x00")?;
+    for cell in [b"\xa0\x0f\x00\x00", b"\xc0\x12\x00\x00"] {
+        for _ in 0..720 * points as u16 {
+            file.extend_from_slice(cell)?;
         }
     }
     Ok(file)

@@ -1,5 +1,6 @@
 // Records of a fixed number of bytes, one behind the other. Numbers have their lowest byte first.
-ghost use Rattle.std.specs.Prelude.{◌≡◌, ℕ, List, map};
+ghost use Rattle.std.specs.Prelude.{◌≡◌, ℕ, ◌/◌, ◌<◌, List, map, length, take};
+ghost use Rattle.std.specs.Simd.{first_chunks};
 ghost use Rattle.dayformat.specs.Headers.{right_of};
 ghost use Rattle.dayformat.specs.Steps.{step_of};
 
@@ -47,6 +48,19 @@ impl Packed<RIGHT_BYTES> for Right {
 }
 
 impl<'a, const SIZE: usize, const MOST: usize> Records<'a, SIZE, MOST> {
+    // The records that bytes begin with: as many as are whole, and at most `MOST`.
+    pub fn of(bytes: &'a [u8]) -> Self
+        ensures { 0 < SIZE → result.bytes.now ≡ take MOST (first_chunks SIZE (length bytes.now / SIZE) bytes.now) }
+    {
+        if SIZE == 0 || bytes.len() < SIZE {
+            return Records { bytes: &[] };
+        }
+        let (records, _) = bytes.as_chunks::<SIZE>();
+        Records {
+            bytes: &records[..records.len().min(MOST)],
+        }
+    }
+
     // What is read from each, in order.
     pub fn read<T: Packed<SIZE>>(&self) -> ArrayVec<T, MOST>
         ensures { result.items ≡ map T.of self.now.bytes.now }

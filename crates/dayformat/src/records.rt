@@ -6,5 +6,5 @@ ghost use Rattle.std.specs.Prelude.{◌<◌, ◌≤◌, length};
 pub struct Records<'a, const SIZE: usize, const MOST: usize> {
     pub(crate) bytes: &'a [[u8; SIZE]],
     ghost few: { length bytes.now ≤ MOST },
-    ghost reached: { SIZE < 9223372036854775808 },
+    ghost reached: { 0 < length bytes.now → SIZE < 9223372036854775808 },
 }

@@ -1,6 +1,6 @@
 -- Thirty answers of a record are its days where the point is known, and else each is its fault; so the
 -- percentile of what was gathered is the figure.
-use Rattle.std.proofs.Common.{◌≡◌, ℕ, ◌+◌, ◌<◌, Bool, cond, ◌≢◌, List, length, get_or, set, ℤ, None, Some, Ok, Err, Option, Result, refl, sym, ap, ◌∙◌, arith, length-set, get_or-set_other, get_or-set_same, below_more}
+use Rattle.std.proofs.Common.{◌≡◌, ℕ, ◌+◌, ◌<◌, Bool, cond, List, length, get_or, ℤ, None, Some, Ok, Err, Option, Result, refl, sym, ap, ◌∙◌, arith}
 use Rattle.std.specs.Int.Signed.{le_z}
 use Rattle.std.proofs.lemmas.Int.{ints}
 use Rattle.std.proofs.lemmas.List.FromFn.{fill_by_all}
@@ -25,16 +25,6 @@ module _ (e : Entry) (h : ℕ) where
   -- the days before d are as the record answers them
   abbrev pub Told : List (Option ℤ) → ℕ → Type 0
   Told days d = (length days ≡ 30) × ((j : ℕ) → j + 1 < d → answer e h (j + 1) ≡ Ok (get_or days j None))
-
-  pub told_more : (days : List (Option ℤ)) (d k : ℕ) (o : Option ℤ) → d ≡ k + 1 → Told days d → k < 30 → Ok o ≡ answer e h d → Told (set days k o) (d + 1)
-  told_more days d k o day told lt is =
-      let at : ℕ → Type 0 = λ j. answer e h (j + 1) ≡ Ok (get_or (set days k o) j None) in
-      let within : k < length days = omega (arith, told.0) in
-      let before : (j : ℕ) → j < k → at j = λ j low. let ne : j ≢ k = omega arith in rw get_or-set_other (told.1 j (omega arith)) in
-      let here : at k = rw get_or-set_same (sym (is ∙ ap (λ n. answer e h n) day)) in (
-        simp length-set told.0,
-        λ j low. below_more at k before here j (omega arith),
-      )
 
 all_known : (v : ℕ → ℕ → Option ℤ) (h : ℕ) (days : List (Option ℤ)) → Told (known v) h days 31 → days ≡ days_of v h
 unfolding days_of

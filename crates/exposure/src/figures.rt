@@ -14,13 +14,13 @@ use ranking::percentile::percentile;
 
 // A record at a point and an hour. It is asked by letters, which are chars as the faults have them.
 #[derive(Clone, Copy)]
-pub(crate) struct Place<R> {
+pub(crate) struct Asked<R> {
     pub(crate) record: R,
     pub(crate) point: Point,
     pub(crate) hour: Hour,
 }
 
-impl<R: Record> Place<R> {
+impl<R: Record> Asked<R> {
     // What the thirty days have. No heap: the array has room for each. The day is what is asked, and its place
     // follows from it.
     fn gather(&self) -> Result<[Option<Price>; DAYS as usize], RecordFault>

@@ -3,11 +3,11 @@ ghost use Rattle.std.specs.Prelude.{◌≡◌};
 ghost use Rattle.exposure.specs.Protocol.{bid_worth, offer_worth, three_part_worth, path_worth};
 
 use crate::fault::RuleFault;
-use crate::figures::Place;
+use crate::figures::Asked;
 use crate::protocol::Protocol;
 use formulas::kinds::{energy_bid, energy_only_offer, point_to_point, three_part_offer};
 use market::submission::Submission;
-use market::units::{Hour, Point, Tenths};
+use market::units::{Point, Tenths};
 use prices::floor::Floor;
 use prices::path::Path;
 use prices::record::Record;
@@ -20,7 +20,7 @@ impl<D: Record, T: Record> Protocol<D, T> {
     pub(crate) fn energy_bid(&self, submission: &Submission, point: Point) -> Result<i64, RuleFault>
         ensures { result ≡ bid_worth (D.Record.meaning self.now.day_ahead) self.now.factors submission.now.curve point submission.now.hour }
     {
-        let ahead = Place {
+        let ahead = Asked {
             record: self.day_ahead,
             point,
             hour: submission.hour(),
@@ -37,7 +37,7 @@ impl<D: Record, T: Record> Protocol<D, T> {
         ensures { result ≡ offer_worth (D.Record.meaning self.now.day_ahead) (T.Record.meaning self.now.real_time) self.now.factors submission.now.curve point submission.now.hour }
     {
         let hour = submission.hour();
-        let ahead = Place {
+        let ahead = Asked {
             record: self.day_ahead,
             point,
             hour,
@@ -45,7 +45,7 @@ impl<D: Record, T: Record> Protocol<D, T> {
         let a = ahead.lettered('a')?;
         let b = ahead.lettered('b')?;
         let spread = Spread::new(self.real_time, self.day_ahead);
-        let shortfall = Place {
+        let shortfall = Asked {
             record: Floor::new(spread),
             point,
             hour,
@@ -61,7 +61,7 @@ impl<D: Record, T: Record> Protocol<D, T> {
     ) -> Result<i64, RuleFault>
         ensures { result ≡ three_part_worth (D.Record.meaning self.now.day_ahead) submission.now.curve point submission.now.hour }
     {
-        let ahead = Place {
+        let ahead = Asked {
             record: self.day_ahead,
             point,
             hour: submission.hour(),
@@ -81,7 +81,7 @@ impl<D: Record, T: Record> Protocol<D, T> {
         ensures { result ≡ path_worth (T.Record.meaning self.now.real_time) submission.now.curve source sink submission.now.hour cover }
     {
         let path = Path::new(self.real_time, source, sink);
-        let floor = Place {
+        let floor = Asked {
             record: Floor::new(path),
             point: source,
             hour: submission.hour(),

@@ -3,7 +3,8 @@ use factors::days::Dollars;
 use factors::factor::{default_e1, e3, favourable_e1};
 use ranking::fault::NoDays;
 
-// The factor over one day, which is the day's ratio in hundredths.
+// The factor over one day, which is the day's ratio in hundredths. The other ratio has its own, of another type of
+// day and another factor.
 fn of_day(bids: i64, offers: i64) -> Result<u8, NoDays> {
     default_e1(&[Dollars { bids, offers }])
 }

@@ -3,7 +3,8 @@ use factors::days::Quantities;
 use factors::factor::{default_e2, favourable_e2};
 use ranking::fault::NoDays;
 
-// The factor over one day, which is the day's ratio in hundredths.
+// The factor over one day, which is the day's ratio in hundredths. The other ratio has its own, of another type of
+// day and another factor.
 fn of_day(bids: i64, offers: i64) -> Result<u8, NoDays> {
     favourable_e2(&[Quantities { bids, offers }])
 }

@@ -1,8 +1,8 @@
 -- Exact fractions from 0 to 1: how they are made, ranked and rounded. Assumes nothing.
-use Rattle.std.specs.Prelude.{ℕ, ◌+◌, ◌*◌, ◌/◌, ◌≤◌, min, Bool, ℤ, pos, negsuc, nat_le}
+use Rattle.std.specs.Prelude.{ℕ, ◌+◌, ◌*◌, ◌/◌, ◌<◌, ◌≤◌, min, Bool, ℤ, pos, negsuc, nat_le}
 use Rattle.std.specs.declared.cmp.Ordering.{Ordering}
 use Rattle.std.specs.Ordering.{nat_cmp}
-use Rattle.std.proofs.Common.{arith}
+use Rattle.std.proofs.Common.{div-lt_iff_lt-mul, arith}
 use Rattle.factors.specs.declared.ratio.Ratio.{Ratio}
 
 -- the top of a fraction with this bottom, brought into 0 to 1
@@ -43,3 +43,9 @@ crossed x y = nat_cmp (x.top * y.bottom) (y.top * x.bottom)
 -- 100 x + 1/2, which is (200 top + bottom)/(2 bottom), rounded down
 abbrev pub in_hundredths : Ratio → ℕ
 in_hundredths x = (200 * x.top + x.bottom) / (2 * x.bottom)
+
+-- a fraction of at most 1 is at most 100 hundredths: 200 top + bottom is at most 201 bottom, below 101 times 2 bottom
+pub hundred_at_most : (top bottom : ℕ) → 0 < bottom → top ≤ bottom → (200 * top + bottom) / (2 * bottom) ≤ 100
+hundred_at_most top bottom proper within =
+    let l : (200 * top + bottom) / (2 * bottom) < 101 = (div-lt_iff_lt-mul {k = 2 * bottom} {x = 200 * top + bottom} {y = 101} (omega arith)).1 (omega arith) in
+    omega arith

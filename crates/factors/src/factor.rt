@@ -9,10 +9,12 @@ use crate::rounding::in_hundredths;
 use ranking::fault::NoDays;
 use ranking::percentile::percentile;
 
+// The 30 days of a factor, which are another rule's than the 30 of a price record.
 pub const MOST_DAYS: usize = 30;
 
-// The days' ratios, from the first place on. No heap: the array has room for the most days. Its places were tried
-// by `iter_mut().zip(days)`, and that proof didn't close: what a lent place ends as is not known in the loop.
+// The days' ratios, from the first place on. No heap: the array has room for the most days. To fill it by
+// `iter_mut().zip(days)` and by `array::from_fn` was tried, and neither proof closed: the one lends the places, whose
+// end the loop doesn't know, and the other hides what its closure has read.
 fn gathered<D: Rated>(days: &[D]) -> [Option<Ratio>; MOST_DAYS]
     requires { length days.now ≤ 30 }
     ensures { take (length days.now) result ≡ map D.rating days.now }

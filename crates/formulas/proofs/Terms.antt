@@ -1,14 +1,8 @@
 -- What the tests leave of a block's formula.
-use Rattle.std.proofs.Common.{◌≡◌, ℕ, true, false, ℤ, pos, ◌+ℤ◌, neg_ℤ, refl}
+use Rattle.std.proofs.Common.{◌≡◌, ℕ, true, false, ℤ, ◌+ℤ◌, neg_ℤ, refl}
 use Rattle.std.proofs.Math.IntN.{+ℤ_idr}
-use Rattle.std.specs.Int.Signed.{le_z, lt_z}
+use Rattle.std.specs.Int.Signed.{le_z}
 use Rattle.formulas.specs.Kinds.{grains, credit, offer_block, three_part_block}
-
-pub credit_above : (e m : ℕ) (b : ℤ) → lt_z (pos 0) b ≡ true → credit e b m ≡ neg_ℤ (grains e b m)
-credit_above e m b t = rw t refl
-
-pub credit_below : (e m : ℕ) (b : ℤ) → lt_z (pos 0) b ≡ false → lt_z b (pos 0) ≡ true → credit e b m ≡ neg_ℤ (grains 100 b m)
-credit_below e m b t u = rw (t, u) refl
 
 pub offer_taken : (e2 e3 m : ℕ) (a b s p : ℤ) → le_z p a ≡ true → offer_block e2 e3 a b s p m ≡ grains e3 s m +ℤ credit e2 b m
 offer_taken e2 e3 m a b s p t = rw t refl

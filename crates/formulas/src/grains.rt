@@ -1,4 +1,5 @@
-// Products of factors, cents and tenths, which are grains.
+// Products of factors, cents and tenths, which are grains. What they may be are premises and no types: the figures come
+// from factors, literals, prices, steps and blocks, and a type would be made for each product and opened in it.
 ghost use Rattle.std.specs.Prelude.{◌≡◌, ℕ, ◌*◌, ◌≤◌, pos, ◌*ℤ◌};
 ghost use Rattle.market.specs.Bounds.{Bounded};
 ghost use Rattle.formulas.specs.Kinds.{grains};

@@ -14,7 +14,8 @@ use market::curve::Curve;
 use market::step::Step;
 use market::units::Tenths;
 
-// What a step of an energy bid gives: nothing where its price is not above 0.
+// What a step of an energy bid gives: nothing where its price is not above 0. That a step fits is what its curve
+// promises: a step alone is any two figures, since callers make it.
 fn bid_step(factors: Factors, d: Figure, step: Step) -> i64
     requires { Fit 0 step }
     ensures value { result ≡ bid_step factors.e1 d.cents step }

@@ -5,8 +5,8 @@ ghost use Rattle.market.specs.Curves.{lawful};
 use crate::step::{Side, Step};
 use crate::units::MOST_STEPS;
 
-// The first `count` places hold the steps; the others are blank. Ten places and a count, and no vector: a
-// curve is copied into each row of a book, and no row may need memory.
+// The first `count` places hold the steps; the others are blank. Ten places and a count, and no vector, of a fixed
+// capacity or not: a curve is copied into each row of a book, and no row may need memory.
 #[derive(Clone, Copy)]
 pub struct Curve {
     pub(crate) side: Side,

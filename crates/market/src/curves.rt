@@ -14,6 +14,7 @@ fn step_fits(step: Step) -> bool
     (1..=MOST_QUANTITY).contains(&step.quantity) && price_fits(step.price)
 }
 
+// One match on both: `is_none_or` over a match on the side would be no plainer.
 fn goes_on(side: Side, last: Option<Step>, next: Step) -> bool
     ensures { result ≡ follows side last next }
 {
@@ -64,8 +65,8 @@ impl Curve {
         })
     }
 
-    // A curve to buy, of exactly these steps. It and `offer` are `make` by name: a side as an argument would
-    // be no plainer where a curve is made.
+    // A curve to buy, of exactly these steps. It and `offer` are `make` under the words of the trade: a side as an
+    // argument would be one more thing to mistake where a curve is made.
     pub fn bid(steps: &[Step]) -> Result<Curve, Refusal>
         ensures { result ≡ curve_of Side.Bid steps.now }
     {

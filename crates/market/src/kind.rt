@@ -22,7 +22,7 @@ pub enum Kind {
 }
 
 // The figures of a submission as they come. The source is the point of a kind that has one point. Kind and claim
-// are the bytes that came, so that an unfit one can be told and is refused by its number.
+// are plain numbers by the same rule: an unfit one can be told, and is refused by its number.
 #[derive(Clone, Copy, PartialEq, Eq, Debug)]
 pub struct Figures {
     pub number: u32,

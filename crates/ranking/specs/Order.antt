@@ -1,10 +1,10 @@
 -- Total orders, as a test that says whether one element does not come after another. Assumes nothing.
-use Rattle.std.specs.Prelude.{◌≡◌, Bool, false, T, ◌⊎◌}
+use Rattle.std.specs.Prelude.{◌≡◌, Bool, false, T, ◌⊎◌, int_le}
 use Rattle.std.specs.declared.cmp.Ordering.{Ordering}
 use Rattle.std.specs.declared.cmp.Ordering.TheVariants.{Less, Equal, Greater}
 use Rattle.std.specs.Cmp.{IsTotalOrder}
 use Rattle.std.specs.Ordering.{is_le, is_gt, ordering_reverse}
-use Rattle.std.proofs.Common.{refl, ap, inl, inr, true≢false}
+use Rattle.std.proofs.Common.{rules, refl, ap, inl, inr, true≢false}
 use Rattle.std.proofs.lemmas.Cmp.{upto as chained}
 
 -- any two compare, and the order is transitive
@@ -32,6 +32,10 @@ at_most : (r : Ordering) → is_gt r ≡ false → T (is_le r)
 at_most Less n = tt
 at_most Equal n = tt
 at_most Greater n = absurd (true≢false n)
+
+-- prices, as numbers
+pub int_le_total : TotalOrder int_le
+int_le_total = record { compares = search rules; transitive = search rules }
 
 -- what `Ord` promises of its comparison makes a total order
 pub total : {E : Type 0} (cmp : E → E → Ordering) → IsTotalOrder cmp → TotalOrder (upto cmp)

@@ -7,7 +7,7 @@ ghost use Rattle.ranking.specs.Numbers.{number_of};
 pub struct NoDays;
 
 impl NoDays {
-    // The number is what callers are promised; the fault is a type of its own, and has nothing else to tell.
+    // A struct has no cases, and so no discriminant.
     pub fn number(self) -> u8
         ensures { result ≡ number_of self }
     {

@@ -28,7 +28,8 @@ fn share_of(p: u8, n: usize) -> usize
 
 // The least element present such that at least `share_of(p, n)` of the n present do not come after
 // it; among equals, the earliest day's. A candidate is that one if it reaches so many and fewer
-// come before it.
+// come before it. Both loops and their tallies are a rule of the project: the counted days are gone through for each
+// candidate, and the block is left by the answer.
 pub fn percentile<E: Ord + Copy>(days: &[Option<E>], p: u8) -> Result<E, NoDays>
     ensures is { result ≡ percentile_of (upto E.cmp) days.now p }
     ensures means { Percentile (upto E.cmp) days.now p result }

@@ -5,7 +5,7 @@ use Rattle.std.proofs.lemmas.Int.{ints, to_z-of_z}
 use Rattle.market.specs.Bounds.{Bounded}
 use Rattle.formulas.proofs.Backs.{fits32}
 use Rattle.exposure.proofs.Figuring.{figure_fault, figure_or, figure_none, figure_in, some_percent, no_percent, ok_from_or}
-use Rattle.exposure.proofs.figures.Place.figure.Goals as goal
+use Rattle.exposure.proofs.figures.Asked.figure.Goals as goal
 
 back : (x : ℤ) → Bounded 4000000 x → to_z w32 (of_z w32 x) ≡ x
 back x b = to_z-of_z w32 x (fits32 4000000 x b (omega arith))
