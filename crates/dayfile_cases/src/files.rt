@@ -197,7 +197,7 @@ fn paged(heap: Global, points: u8) -> Result<Vec<u8>, Fail> {
     )?;
     file.push(points)?;
     for cell in [b"\xa0\x0f\x00\x00", b"\xc0\x12\x00\x00"] {
-        for _ in 0..720 * points as u16 {
+        for _ in 0..720 * points as u32 {
             file.extend_from_slice(cell)?;
         }
     }
