@@ -1,0 +1,10 @@
+pub mod Exposures
+pub mod Finding
+pub mod Apart
+pub mod Standing
+pub mod Accepting
+pub mod Covering
+pub mod Holding
+pub mod Following
+pub mod Tracing
+pub mod Bringing

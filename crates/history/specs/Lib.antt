@@ -1,0 +1,9 @@
+pub mod Numbers
+pub mod Sums
+pub mod Rows
+pub mod Views
+pub mod Answers
+pub mod Events
+pub mod Calls
+pub mod Histories
+pub mod Runs
