@@ -2,15 +2,15 @@
 use Rattle.std.proofs.Common.{◌≡◌, ℕ, Bool, true, false, cond, leb, length, ℤ, ◌+ℤ◌, neg_ℤ, Some, None, Ok, Err, Option, Result, sym, ap, ◌∙◌}
 use Rattle.market.specs.declared.submission.Submission.{Submission}
 use Rattle.exposure.specs.declared.fault.RuleFault.{RuleFault}
-use Rattle.book.specs.declared.answer.Accepted.{Accepted}
-use Rattle.book.specs.declared.refusal.Refusal.{Refusal}
-use Rattle.book.specs.declared.refusal.Refusal.TheVariants as refusal
-use Rattle.book.specs.declared.row.Row.{Row}
-use Rattle.book.specs.Answers.{beyond, over, left_of_limit, valued, roomy, unless_standing, submit_answer, released, withdraw_answer}
-use Rattle.book.specs.Covers.{cover_of}
-use Rattle.book.specs.Rows.{find}
-use Rattle.book.specs.Sums.{sum}
-use Rattle.book.specs.Views.{Meaning, View}
+use Rattle.history.specs.declared.accepted.Accepted.{Accepted}
+use Rattle.history.specs.declared.refusal.Refusal.{Refusal}
+use Rattle.history.specs.declared.refusal.Refusal.TheVariants as refusal
+use Rattle.rights.specs.declared.row.Row.{Row}
+use Rattle.history.specs.Answers.{beyond, over, left_of_limit, valued, roomy, unless_standing, submit_answer, released, withdraw_answer}
+use Rattle.rights.specs.Covers.{cover_of}
+use Rattle.history.specs.Rows.{find}
+use Rattle.history.specs.Sums.{sum}
+use Rattle.history.specs.Views.{Meaning, View}
 
 module _ (v : View) (s : Submission) (m : Meaning) where
   pub stood : (r : Row) → find s.number v.rows ≡ Some r → Err refusal.NumberStands ≡ submit_answer v s m

@@ -2,13 +2,14 @@
 use Rattle.std.proofs.Common.{◌≡◌, ℕ, ◌<◌, true, false, length, ℤ, ◌+ℤ◌, ◌-ℤ◌, None, Ok, Err, vec_items, sym, ap, ◌∙◌, w64, to_z, of_z}
 use Rattle.std.proofs.lemmas.Bool.{lt-leb}
 use Rattle.market.specs.declared.submission.Submission.{Submission}
-use Rattle.book.specs.declared.refusal.Refusal.TheVariants as refusal
+use Rattle.history.specs.declared.refusal.Refusal.TheVariants as refusal
 use Rattle.book.specs.declared.state.Book.{Book}
-use Rattle.book.specs.Answers.{beyond, over, submit_answer, valued}
-use Rattle.book.specs.Covers.{cover_of}
-use Rattle.book.specs.Rows.{find}
-use Rattle.book.specs.Sums.{sum}
-use Rattle.book.specs.Views.{Meaning, view}
+use Rattle.history.specs.Answers.{beyond, over, submit_answer, valued}
+use Rattle.rights.specs.Covers.{cover_of}
+use Rattle.history.specs.Rows.{find}
+use Rattle.history.specs.Sums.{sum}
+use Rattle.history.specs.Views.{Meaning}
+use Rattle.book.specs.Shown.{view}
 use Rattle.book.proofs.Answering.{weighed, valued_beyond, valued_over, valued_under}
 use Rattle.book.proofs.Totals.{Reads}
 

@@ -8,10 +8,10 @@ use Rattle.exposure.specs.declared.fault.RuleFault.{RuleFault}
 use Rattle.exposure.specs.Worth.{Within}
 use Rattle.book.specs.declared.ledger.Ledger.{Ledger}
 use Rattle.book.specs.declared.state.Book.{Book}
-use Rattle.book.specs.declared.row.Row.{Row}
-use Rattle.book.specs.Rows.{find, without, Placed}
-use Rattle.book.specs.Sums.{sum}
-use Rattle.book.proofs.Exposures.{bounded_at, sum_bounds}
+use Rattle.rights.specs.declared.row.Row.{Row}
+use Rattle.history.specs.Rows.{find, without, Placed}
+use Rattle.history.specs.Sums.{sum}
+use Rattle.history.proofs.Exposures.{bounded_at, sum_bounds}
 
 -- a value that a rule answers lies in a rule's range
 pub within_ok : (w : Result ℤ RuleFault) (x : ℤ) → Ok x ≡ w → Within w → Bounded 100000000000000 x

@@ -1,10 +1,3 @@
-pub mod Numbers
-pub mod Sums
-pub mod Rights
-pub mod Covers
-pub mod Rows
-pub mod Views
-pub mod Answers
-pub mod Events
-pub mod Calls
+pub mod Shown
+pub mod Laws
 pub mod Opening

@@ -1,7 +1,7 @@
 // The tests of a total.
 ghost use Rattle.std.specs.Prelude.{◌≡◌};
 ghost use Rattle.market.specs.Bounds.{Bounded};
-ghost use Rattle.book.specs.Answers.{beyond, over};
+ghost use Rattle.history.specs.Answers.{beyond, over};
 
 // In grains: 10^17.
 const MOST_TOTAL: i64 = 100_000_000_000_000_000;

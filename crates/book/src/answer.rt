@@ -1,8 +1,2 @@
 // What an accepted submission brings.
-use market::units::Tenths;
-
-#[derive(Clone, Copy, PartialEq, Eq, Debug)]
-pub struct Accepted {
-    pub exposure: i64,
-    pub cover: Tenths,
-}
+pub use history::accepted::Accepted;

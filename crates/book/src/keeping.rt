@@ -1,15 +1,11 @@
 // The ledger's own steps: finding, adding and taking out a row.
-ghost use Rattle.std.specs.Prelude.{◌≡◌, ◌-◌, ◌<◌, true, [], ◌∷◌, ◌++◌, vec_len};
+ghost use Rattle.std.specs.Prelude.{◌≡◌, ◌<◌, true, [], ◌∷◌, ◌++◌, vec_len};
 ghost use Rattle.std.specs.List.{remove};
-ghost use Rattle.book.specs.Covers.{drawn};
-ghost use Rattle.book.specs.Rows.{Placed};
-ghost use Rattle.book.specs.Sums.{grains};
+ghost use Rattle.history.specs.Rows.{Placed};
+ghost use Rattle.history.specs.Sums.{grains};
 
-use crate::covers::drawn_by;
 use crate::ledger::Ledger;
 use crate::row::Row;
-use market::right::PathHour;
-use market::units::Tenths;
 
 impl Ledger {
     // Where a number stands, if it does.
@@ -19,13 +15,6 @@ impl Ledger {
         self.rows
             .iter()
             .position(|row| row.submission.number() == number)
-    }
-
-    // What is left of some tenths of a path and hour after all that the rows draw there.
-    pub(crate) fn undrawn(&self, tenths: Tenths, path: PathHour) -> Tenths
-        ensures { result ≡ tenths - drawn path self.now.rows.items }
-    {
-        self.rows.iter().fold(tenths, |left, row| left.saturating_sub(drawn_by(row, path)))
     }
 
     pub(crate) fn add(&mut self, row: Row)
@@ -43,5 +32,14 @@ impl Ledger {
     {
         let row = self.rows.remove(i);
         self.total -= row.exposure;
+    }
+
+    // Holds the rows of another ledger from now on, in memory that it has already.
+    pub(crate) fn become_copy(&mut self, other: &Ledger)
+        ensures { self.new.rows.items ≡ other.now.rows.items }
+    {
+        self.rows.clear();
+        let _ = self.rows.extend_from_slice(&other.rows);
+        self.total = other.total;
     }
 }

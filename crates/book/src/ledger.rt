@@ -1,6 +1,6 @@
 // The ledger: rows in order of acceptance, and their total.
 ghost use Rattle.std.specs.Prelude.{◌≡◌, ◌≤◌, true, vec_len, vec_capacity};
-ghost use Rattle.book.specs.Sums.{sum, small};
+ghost use Rattle.history.specs.Sums.{sum, small};
 
 use crate::row::Row;
 

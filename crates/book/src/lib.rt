@@ -4,14 +4,14 @@
 mod admits;
 pub mod answer;
 pub mod ask;
-mod covers;
+mod batch;
+pub mod batches;
 mod keeping;
 mod ledger;
 pub mod limit;
 pub mod memory;
 pub mod opening;
 pub mod refusal;
-mod rights;
 pub mod row;
 pub mod state;
 pub mod submit;

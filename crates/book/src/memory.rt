@@ -1,6 +1,6 @@
 // Reserving memory: the one call of the book that allocates.
 ghost use Rattle.std.specs.Prelude.{◌≡◌, MatchResult};
-ghost use Rattle.book.specs.Views.{Empty};
+ghost use Rattle.book.specs.Shown.{Empty};
 
 use crate::refusal::Refusal;
 use crate::row::MOST_ROWS;
@@ -13,6 +13,11 @@ impl Room {
     {
         let rights = Vec::with_capacity(heap, MOST_RIGHTS)?;
         let rows = Vec::with_capacity(heap, MOST_ROWS)?;
-        Ok(Room { rights, rows })
+        let before = Vec::with_capacity(heap, MOST_ROWS)?;
+        Ok(Room {
+            rights,
+            rows,
+            before,
+        })
     }
 }

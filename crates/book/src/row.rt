@@ -1,13 +1,4 @@
-// A row of the book.
-use market::submission::Submission;
-use market::units::Tenths;
+// A row of the book, and how many it holds at most.
+pub use rights::row::Row;
 
 pub const MOST_ROWS: usize = 500;
-
-// A submission that stands, with its exposure in grains and its covered tenths.
-#[derive(Clone, Copy)]
-pub struct Row {
-    pub submission: Submission,
-    pub exposure: i64,
-    pub cover: Tenths,
-}

@@ -1,28 +1,28 @@
 // Submitting under a rule.
 ghost use Rattle.std.specs.Prelude.{◌≡◌, ◌<◌, true, IfOk, vec_len};
-ghost use Rattle.book.specs.Answers.{submit_answer};
-ghost use Rattle.book.specs.Covers.{cover_of};
-ghost use Rattle.book.specs.Events.{submitted, after};
-ghost use Rattle.book.specs.Sums.{grains};
-ghost use Rattle.book.specs.Views.{view};
+ghost use Rattle.rights.specs.Covers.{cover_of};
+ghost use Rattle.history.specs.Answers.{submit_answer};
+ghost use Rattle.history.specs.Events.{submitted, after};
+ghost use Rattle.history.specs.Sums.{grains};
+ghost use Rattle.book.specs.Laws.{Law};
+ghost use Rattle.book.specs.Shown.{view};
 
 use crate::admits::{out_of_range, passes};
 use crate::answer::Accepted;
-use crate::covers::path_claimed;
 use crate::refusal::Refusal;
 use crate::row::{MOST_ROWS, Row};
 use crate::state::Book;
 use exposure::rule::Rule;
 use market::submission::Submission;
 use market::units::Tenths;
+use rights::cover::covered_tenths;
 
 impl Book {
     // The cover of a submission by what stands.
     fn cover(&self, submission: &Submission) -> Tenths
         ensures { result ≡ cover_of (view self.now).rights (view self.now).rows submission.now }
     {
-        let quantity = submission.curve().last().quantity;
-        path_claimed(submission).map_or(0, |path| quantity.min(self.free(path)))
+        covered_tenths(&self.rights, &self.standing.rows, submission)
     }
 
     // The answer to a submission: nothing is changed yet.
@@ -52,12 +52,7 @@ impl Book {
         Ok(Accepted { exposure, cover })
     }
 
-    // Accepts a submission that no test refuses; the answer brings its exposure and cover.
-    pub fn submit<R: Rule>(
-        &mut self,
-        rule: &mut R,
-        submission: Submission,
-    ) -> Result<Accepted, Refusal>
+    fn enter<R: Rule>(&mut self, rule: &mut R, submission: Submission) -> Result<Accepted, Refusal>
         ensures answer { result ≡ submit_answer (view self.old) submission (R.worth rule.old) }
         ensures after { view self.new ≡ after (view self.old) (submitted submission (R.worth rule.old) result) }
         ensures kept { R.worth rule.new ≡ R.worth rule.old }
@@ -69,5 +64,19 @@ impl Book {
             cover: accepted.cover,
         });
         Ok(accepted)
+    }
+
+    // Accepts a submission that no test refuses; the answer brings its exposure and cover.
+    pub fn submit<R: Rule>(
+        &mut self,
+        rule: &mut R,
+        submission: Submission,
+    ) -> Result<Accepted, Refusal>
+        ensures answer { result ≡ submit_answer (view self.old) submission (R.worth rule.old) }
+        ensures after { view self.new ≡ after (view self.old) (submitted submission (R.worth rule.old) result) }
+        ensures kept { R.worth rule.new ≡ R.worth rule.old }
+        ensures law { Law self.old (submitted submission (R.worth rule.old) result) self.new }
+    {
+        self.enter(rule, submission)
     }
 }

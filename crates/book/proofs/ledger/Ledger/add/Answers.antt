@@ -1,7 +1,7 @@
 use Rattle.std.proofs.Common.{ap, ◌∙◌, arith, rules}
 use Rattle.std.proofs.lemmas.Int.{ints}
-use Rattle.book.specs.Sums.{sum, small}
-use Rattle.book.proofs.Exposures.{bounded, sum_bounds, small_push, sum_push}
+use Rattle.history.specs.Sums.{sum, small}
+use Rattle.history.proofs.Exposures.{bounded, sum_bounds, small_push, sum_push}
 use Rattle.book.proofs.ledger.Ledger.add.Goals as goal
 
 pub overflow_add-self : goal.overflow_add-self

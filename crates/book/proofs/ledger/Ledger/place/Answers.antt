@@ -2,8 +2,8 @@ use Rattle.std.proofs.Common.{rules, tests, ◌≡◌, subst, sym}
 use Rattle.std.proofs.lemmas.Iterator.{YieldsList-from_slice}
 use Rattle.std.proofs.lemmas.Iterator.Search.{position_from_yields_List}
 use Rattle.std.specs.List.{position}
-use Rattle.book.specs.Rows.{Placed}
-use Rattle.book.proofs.Finding.{bears, placed}
+use Rattle.history.specs.Rows.{Placed}
+use Rattle.history.proofs.Finding.{bears, placed}
 use Rattle.book.proofs.ledger.Ledger.place.Goals as goal
 
 pub returns : goal.returns

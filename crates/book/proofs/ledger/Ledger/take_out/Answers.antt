@@ -1,7 +1,7 @@
 use Rattle.std.proofs.Common.{◌<◌, length, ap, ◌∙◌, arith, rules}
 use Rattle.std.proofs.lemmas.Int.{ints}
-use Rattle.book.specs.Sums.{sum, small}
-use Rattle.book.proofs.Exposures.{bounded_at, sum_bounds, sum_removed, small_removed}
+use Rattle.history.specs.Sums.{sum, small}
+use Rattle.history.proofs.Exposures.{bounded_at, sum_bounds, sum_removed, small_removed}
 use Rattle.book.proofs.ledger.Ledger.take_out.Goals as goal
 
 pub overflow_sub-self : goal.overflow_sub-self

@@ -1,11 +1,11 @@
 use Rattle.std.proofs.Common.{ℕ, pos, sym, refl, ap, ◌∙◌, arith}
-use Rattle.book.specs.declared.row.Row.{Row}
-use Rattle.book.specs.Rows.{find}
-use Rattle.book.specs.Sums.{grains}
-use Rattle.book.specs.Views.{view}
+use Rattle.rights.specs.declared.row.Row.{Row}
+use Rattle.history.specs.Rows.{find}
+use Rattle.history.specs.Sums.{grains}
+use Rattle.book.specs.Shown.{view}
 use Rattle.book.proofs.Answering.{stood}
-use Rattle.book.proofs.Exposures.{grains_in}
-use Rattle.book.proofs.Finding.{standing, not_standing}
+use Rattle.history.proofs.Exposures.{grains_in}
+use Rattle.history.proofs.Finding.{standing, not_standing}
 use Rattle.book.proofs.Submitting.{out_of_range, past_limit, within_limit}
 use Rattle.book.proofs.Totals.{reads_valued}
 use Rattle.book.proofs.state.Book.weigh.Goals as goal
