@@ -65,9 +65,15 @@ cut_steps bs rest e same h =
 pub no_call : (bs : List ℕ) →
     (get_or bs 0 0 ≡ 83 → 14 ≤ length bs → ⊥) →
     (get_or bs 0 0 ≡ 87 → 5 ≤ length bs → ⊥) →
+    (get_or bs 0 0 ≡ 79 → 1 ≤ length bs → ⊥) →
+    (get_or bs 0 0 ≡ 75 → 1 ≤ length bs → ⊥) →
+    (get_or bs 0 0 ≡ 67 → 1 ≤ length bs → ⊥) →
     (get_or bs 0 0 ≡ 76 → 9 ≤ length bs → ⊥) → first_call bs ≡ None
 unfolding first_call
-no_call bs s w l =
+no_call bs s w o k c l =
     by_test (eqb (get_or bs 0 0) 83) _ _ _ (λ e. by_test (leb 14 (length bs)) _ _ _ (λ t. absurd (s (eqb-true _ _ e) (leb-true 14 (length bs) t))) refl)
     (by_test (eqb (get_or bs 0 0) 87) _ _ _ (λ e. no_size 5 bs _ (w (eqb-true _ _ e)))
-    (by_test (eqb (get_or bs 0 0) 76) _ _ _ (λ e. no_size 9 bs _ (l (eqb-true _ _ e))) refl))
+    (by_test (eqb (get_or bs 0 0) 79) _ _ _ (λ e. no_size 1 bs _ (o (eqb-true _ _ e)))
+    (by_test (eqb (get_or bs 0 0) 75) _ _ _ (λ e. no_size 1 bs _ (k (eqb-true _ _ e)))
+    (by_test (eqb (get_or bs 0 0) 67) _ _ _ (λ e. no_size 1 bs _ (c (eqb-true _ _ e)))
+    (by_test (eqb (get_or bs 0 0) 76) _ _ _ (λ e. no_size 9 bs _ (l (eqb-true _ _ e))) refl)))))

@@ -3,7 +3,7 @@ use Rattle.std.specs.Prelude.{ℕ, ◌+◌, ◌*◌, cond, List, length, take, d
 use Rattle.market.specs.declared.kind.Figures.{Figures}
 use Rattle.dayformat.specs.Bytes.{le2, le4, le8_signed}
 use Rattle.dayformat.specs.Steps.{steps_of}
-use Rattle.dayformat.specs.Filed.{Filed, to_submit, to_withdraw, to_limit}
+use Rattle.dayformat.specs.Filed.{Filed, to_submit, to_withdraw, to_open_batch, to_keep_batch, to_cancel_batch, to_limit}
 
 -- a call of so many bytes, and what follows it; nothing where it is cut
 abbrev pub sized : ℕ → List ℕ → Filed → Option (Filed × List ℕ)
@@ -27,12 +27,15 @@ submit_of bs =
     cond (nat_le 14 (length bs))
     (sized (14 + 8 * slice_index bs 13) bs (to_submit (figures_of bs) (steps_of (take (8 * slice_index bs 13) (drop 14 bs)) (slice_index bs 13)))) None
 
--- S, W and L
+-- S, W, O, K, C and L
 abbrev pub by_letter : ℕ → List ℕ → Option (Filed × List ℕ)
 by_letter b bs =
     cond (b == 83) (submit_of bs)
     (cond (b == 87) (sized 5 bs (to_withdraw (le4 bs 1)))
-    (cond (b == 76) (sized 9 bs (to_limit (le8_signed bs 1))) None))
+    (cond (b == 79) (sized 1 bs to_open_batch)
+    (cond (b == 75) (sized 1 bs to_keep_batch)
+    (cond (b == 67) (sized 1 bs to_cancel_batch)
+    (cond (b == 76) (sized 9 bs (to_limit (le8_signed bs 1))) None)))))
 
 unfoldable pub first_call : List ℕ → Option (Filed × List ℕ)
 first_call bs = by_letter (slice_index bs 0) bs

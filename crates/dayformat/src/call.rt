@@ -13,5 +13,8 @@ pub enum Call<'a> {
         steps: Records<'a, STEP_BYTES, MOST_FILED_STEPS>,
     },
     Withdraw(u32),
+    OpenBatch,
+    KeepBatch,
+    CancelBatch,
     Limit(i64),
 }

@@ -51,6 +51,9 @@ pub fn next_call(bytes: &[u8]) -> Option<(Call<'_>, &[u8])>
                 rest,
             ))
         }
+        [b'O', rest @ ..] => Some((Call::OpenBatch, rest)),
+        [b'K', rest @ ..] => Some((Call::KeepBatch, rest)),
+        [b'C', rest @ ..] => Some((Call::CancelBatch, rest)),
         [b'L', l0, l1, l2, l3, l4, l5, l6, l7, rest @ ..] => {
             let limit = i64::from_le_bytes([*l0, *l1, *l2, *l3, *l4, *l5, *l6, *l7]);
             Some((Call::Limit(limit), rest))

@@ -18,5 +18,14 @@ returns-in-76 c = record { reads = opens c.args.bytes.now 76 9 _ _ refl (search 
 pub returns-in-87 : goal.returns-in-87
 returns-in-87 c = record { reads = opens c.args.bytes.now 87 5 _ _ refl (search rules) (lit≤ tt) (search rules) (search rules) }
 
+pub returns-in-79 : goal.returns-in-79
+returns-in-79 c = record { reads = opens c.args.bytes.now 79 1 _ _ refl (search rules) (lit≤ tt) (search rules) (search rules) }
+
+pub returns-in-75 : goal.returns-in-75
+returns-in-75 c = record { reads = opens c.args.bytes.now 75 1 _ _ refl (search rules) (lit≤ tt) (search rules) (search rules) }
+
+pub returns-in-67 : goal.returns-in-67
+returns-in-67 c = record { reads = opens c.args.bytes.now 67 1 _ _ refl (search rules) (lit≤ tt) (search rules) (search rules) }
+
 pub returns-in_default : goal.returns-in_default
-returns-in_default c = record { reads = no_call c.args.bytes.now (search rules) (search rules) (search rules) }
+returns-in_default c = record { reads = no_call c.args.bytes.now (search rules) (search rules) (search rules) (search rules) (search rules) (search rules) }
