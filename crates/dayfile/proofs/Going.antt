@@ -3,8 +3,8 @@ use Rattle.std.proofs.Common.{◌≡◌, ℕ, zero, suc, ◌+◌, ◌-◌, ◌*�
 use Rattle.std.specs.Int.Signed.{mag}
 use Rattle.std.specs.Fmt.{signed_decimal}
 use Rattle.std.proofs.lemmas.Fmt.{length-decimal-le, length_signed_le}
-use Rattle.book.specs.Sums.{sum}
-use Rattle.book.specs.Views.{View, Meaning}
+use Rattle.history.specs.Sums.{sum}
+use Rattle.history.specs.Views.{View, Meaning}
 use Rattle.dayfile.specs.Puts.{written}
 use Rattle.dayformat.specs.Calls.{first_call}
 use Rattle.dayformat.specs.Filed.{Filed}

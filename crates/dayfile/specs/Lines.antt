@@ -1,12 +1,15 @@
 -- The lines in bytes. Assumes nothing.
 use Rattle.std.specs.Prelude.{ℕ, List, [], ◌∷◌, ◌++◌, ℤ, decimal}
 use Rattle.std.specs.Fmt.{signed_decimal}
-use Rattle.dayformat.specs.Filed.{Filed, to_submit, to_withdraw, to_limit}
+use Rattle.dayformat.specs.Filed.{Filed, to_submit, to_withdraw, to_open_batch, to_keep_batch, to_cancel_batch, to_limit}
 
--- S, W and L
+-- S, W, O, K, C and L
 abbrev pub letter : Filed → ℕ
 letter (to_submit figures steps) = 83
 letter (to_withdraw number) = 87
+letter to_open_batch = 79
+letter to_keep_batch = 75
+letter to_cancel_batch = 67
 letter (to_limit limit) = 76
 
 -- letter, number and exposure, one space between, and a newline

@@ -1,7 +1,7 @@
 -- The number of each refusal of a run and of a call, and 0 for a call that is accepted. Assumes nothing.
 use Rattle.std.specs.Prelude.{ℕ, Ok, Err, Result}
 use Rattle.market.specs.Numbers as unmade
-use Rattle.book.specs.Numbers as by_book
+use Rattle.history.specs.Numbers as by_book
 use Rattle.dayfile.specs.declared.refusal.Refusal.{Refusal}
 use Rattle.dayfile.specs.declared.refusal.Refusal.TheVariants.{AnswerTooSmall}
 use Rattle.dayfile.specs.declared.refusal.CallRefusal.{CallRefusal}

@@ -11,14 +11,15 @@ use Rattle.formulas.specs.Factors.{factors_of}
 use Rattle.exposure.specs.declared.rates.Rates.{Rates}
 use Rattle.exposure.specs.Protocol.{protocol_worth}
 use Rattle.exposure.specs.Rates.{rates_of, rate_worth}
-use Rattle.book.specs.declared.refusal.Refusal.{Refusal as Unopened}
-use Rattle.book.specs.Answers.{opening_fault}
-use Rattle.book.specs.Calls.{Call, submit, withdraw, new_limit, reply, event_number}
-use Rattle.book.specs.Events.{after}
-use Rattle.book.specs.Opening.{start}
-use Rattle.book.specs.Sums.{sum}
-use Rattle.book.specs.Views.{Meaning, View}
-use Rattle.dayformat.specs.Filed.{Filed, to_submit, to_withdraw, to_limit}
+use Rattle.history.specs.declared.refusal.Refusal.{Refusal as Unopened}
+use Rattle.history.specs.Answers.{opening_fault}
+use Rattle.history.specs.declared.batch.BatchCall.TheVariants.{Open, Keep, Cancel}
+use Rattle.history.specs.Calls.{Call, submit, withdraw, on_batch, new_limit, reply, event_number}
+use Rattle.history.specs.Events.{after}
+use Rattle.book.specs.Opening.{opening}
+use Rattle.history.specs.Sums.{sum}
+use Rattle.history.specs.Views.{Meaning, View, start}
+use Rattle.dayformat.specs.Filed.{Filed, to_submit, to_withdraw, to_open_batch, to_keep_batch, to_cancel_batch, to_limit}
 use Rattle.dayformat.specs.Headers.{Head, header}
 use Rattle.dayformat.specs.Valuations.{Valued, by_rates, by_protocol}
 use Rattle.dayformat.specs.Scripts.{Script, done, cut, then, script}
@@ -36,6 +37,9 @@ submits m (Err f) = Err f
 abbrev pub asked : Meaning → Filed → Result Call Unmade
 asked m (to_submit figures steps) = submits m (submission_of figures steps)
 asked m (to_withdraw number) = Ok (withdraw number)
+asked m to_open_batch = Ok (on_batch Open)
+asked m to_keep_batch = Ok (on_batch Keep)
+asked m to_cancel_batch = Ok (on_batch Cancel)
 asked m (to_limit limit) = Ok (new_limit limit)
 
 -- the number that is returned
@@ -59,11 +63,11 @@ text m v (then k s) = call_line m v k ++ text m (left v (asked m k)) s
 
 -- a header whose book opens is followed by its calls, under the rule's meaning
 abbrev pub by_opening : List ℕ → Head → Meaning → Option Unopened → List ℕ
-by_opening file h m None = text m (start h.limit h.rights) (script 2000 (length file) h.calls)
+by_opening file h m None = text m (start (opening h.limit h.rights)) (script 2000 (length file) h.calls)
 by_opening file h m (Some f) = closing 0
 
 abbrev pub under : List ℕ → Head → Meaning → List ℕ
-under file h m = by_opening file h m (opening_fault h.limit h.rights)
+under file h m = by_opening file h m (opening_fault (opening h.limit h.rights))
 
 -- rates in range
 abbrev pub by_made_rates : List ℕ → Head → Result Rates Unmade → List ℕ

@@ -1,6 +1,6 @@
 // A call of the file, made on the book.
 ghost use Rattle.std.specs.Prelude.{◌≡◌, ◌<◌};
-ghost use Rattle.book.specs.Views.{view};
+ghost use Rattle.book.specs.Shown.{view};
 ghost use Rattle.dayformat.specs.Filed.{means};
 ghost use Rattle.dayfile.specs.Lines.{letter};
 ghost use Rattle.dayfile.specs.Numbers.{call_returned};
@@ -20,6 +20,9 @@ pub(crate) fn letter_of(call: &Call) -> char
     match call {
         Call::Submit { .. } => 'S',
         Call::Withdraw(_) => 'W',
+        Call::OpenBatch => 'O',
+        Call::KeepBatch => 'K',
+        Call::CancelBatch => 'C',
         Call::Limit(_) => 'L',
     }
 }
@@ -38,6 +41,9 @@ pub(crate) fn apply<R: Rule>(book: &mut Book, rule: &mut R, call: Call) -> Resul
         Call::Withdraw(number) => {
             book.withdraw(number)?;
         }
+        Call::OpenBatch => book.open_batch()?,
+        Call::KeepBatch => book.keep_batch()?,
+        Call::CancelBatch => book.cancel_batch()?,
         Call::Limit(limit) => book.new_limit(limit)?,
     }
     Ok(())

@@ -1,6 +1,6 @@
 // The calls of a file, one after another.
 ghost use Rattle.std.specs.Prelude.{◌≤◌, length};
-ghost use Rattle.book.specs.Views.{view};
+ghost use Rattle.book.specs.Shown.{view};
 ghost use Rattle.dayformat.specs.Scripts.{script};
 ghost use Rattle.dayfile.specs.Puts.{Filled};
 ghost use Rattle.dayfile.specs.Runs.{text};

@@ -1,5 +1,5 @@
 use Rattle.std.proofs.Common.{◌≡◌, ◌-◌}
-use Rattle.book.specs.Views.{view}
+use Rattle.book.specs.Shown.{view}
 use Rattle.dayformat.specs.Scripts.{script}
 use Rattle.dayfile.specs.Runs.{text}
 use Rattle.dayfile.proofs.Going.{Going}

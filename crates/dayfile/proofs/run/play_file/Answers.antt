@@ -5,7 +5,7 @@ use Rattle.prices.specs.declared.fault.Label.{Label}
 use Rattle.prices.specs.declared.fault.Label.TheVariants.{DayAhead, RealTime}
 use Rattle.prices.specs.Pages.{page_entry}
 use Rattle.exposure.specs.Protocol.{protocol_worth}
-use Rattle.book.specs.Views.{Meaning}
+use Rattle.history.specs.Views.{Meaning}
 use Rattle.dayformat.specs.Headers.{head_of}
 use Rattle.dayformat.specs.Valuations.{meant}
 use Rattle.dayfile.specs.Runs.{under}
