@@ -2,8 +2,12 @@
 #![tactic(auto)]
 
 #[cfg(test)]
+mod batches;
+#[cfg(test)]
 mod calls;
 pub mod fixed;
 pub mod fixed_rule;
+#[cfg(test)]
+mod setting;
 #[cfg(test)]
 mod submissions;

@@ -49,6 +49,43 @@ fn calls_yield_lines(rt: HostRuntime) -> Result<(), Fail> {
 }
 
 #[test]
+fn batches_open_and_end(rt: HostRuntime) -> Result<(), Fail> {
+    let heap = rt.alloc();
+    assert!(rt; yields(heap, &repeated(heap, b"O", 2)?, b"O 0 0\nO 31 0\n")?);
+    assert!(rt; yields(heap, &repeated(heap, b"K", 1)?, b"K 32 0\n")?);
+    assert!(rt; yields(heap, &repeated(heap, b"C", 1)?, b"C 32 0\n")?);
+    assert!(rt; yields(heap, &repeated(heap, b"OKC", 1)?, b"O 0 0\nK 0 0\nC 32 0\n")?);
+    Ok(())
+}
+
+// The header, an open batch and a submission, and then bytes.
+fn batched(heap: Global, bytes: &[u8]) -> Result<Vec<u8>, Fail> {
+    let mut file = Vec::from_slice(heap, HEADER)?;
+    file.push(b'O')?;
+    file.extend_from_slice(SUBMIT)?;
+    file.extend_from_slice(bytes)?;
+    Ok(file)
+}
+
+#[test]
+fn a_batch_is_kept_or_cancelled(rt: HostRuntime) -> Result<(), Fail> {
+    let heap = rt.alloc();
+    assert!(rt; yields(heap, &batched(heap, b"K")?, b"O 0 0\nS 0 10000000\nK 0 10000000\n")?);
+    assert!(rt; yields(heap, &batched(heap, b"C")?, b"O 0 0\nS 0 10000000\nC 0 0\n")?);
+    assert!(rt;
+        yields(heap, &batched(heap, LIMIT)?, b"O 0 0\nS 0 10000000\nL 31 10000000\n")?
+    );
+    assert!(rt;
+        yields(
+            heap,
+            &batched(heap, b"CW\x07\x00\x00\x00")?,
+            b"O 0 0\nS 0 10000000\nC 0 0\nW 23 0\n",
+        )?
+    );
+    Ok(())
+}
+
+#[test]
 fn a_header_alone_yields_nothing(rt: HostRuntime) -> Result<(), Fail> {
     assert!(rt; yields(rt.alloc(), HEADER, b"")?);
     Ok(())
@@ -108,10 +145,12 @@ fn unfit_headers(rt: HostRuntime) -> Result<(), Fail> {
 #[test]
 fn unknown_letters_end_the_lines(rt: HostRuntime) -> Result<(), Fail> {
     let heap = rt.alloc();
-    let batch = repeated(heap, b"O", 1)?;
+    let letter = repeated(heap, b"Q", 1)?;
+    let small = repeated(heap, b"o", 1)?;
     let lower = repeated(heap, b"w\x07\x00\x00\x00", 1)?;
     let newline = repeated(heap, b"W\x07\x00\x00\x00\n", 2)?;
-    assert!(rt; yields(heap, &batch, b"X 51 32\n")?);
+    assert!(rt; yields(heap, &letter, b"X 51 32\n")?);
+    assert!(rt; yields(heap, &small, b"X 51 32\n")?);
     assert!(rt; yields(heap, &lower, b"X 51 32\n")?);
     assert!(rt; yields(heap, &newline, b"W 23 0\nX 51 37\n")?);
     Ok(())
