@@ -70,10 +70,20 @@ fn batched(heap: Global, bytes: &[u8]) -> Result<Vec<u8>, Fail> {
 #[test]
 fn a_batch_is_kept_or_cancelled(rt: HostRuntime) -> Result<(), Fail> {
     let heap = rt.alloc();
-    assert!(rt; yields(heap, &batched(heap, b"K")?, b"O 0 0\nS 0 10000000\nK 0 10000000\n")?);
+    assert!(rt;
+        yields(
+            heap,
+            &batched(heap, b"K")?,
+            b"O 0 0\nS 0 10000000\nK 0 10000000\n"
+        )?
+    );
     assert!(rt; yields(heap, &batched(heap, b"C")?, b"O 0 0\nS 0 10000000\nC 0 0\n")?);
     assert!(rt;
-        yields(heap, &batched(heap, LIMIT)?, b"O 0 0\nS 0 10000000\nL 31 10000000\n")?
+        yields(
+            heap,
+            &batched(heap, LIMIT)?,
+            b"O 0 0\nS 0 10000000\nL 31 10000000\n"
+        )?
     );
     assert!(rt;
         yields(

@@ -8,3 +8,4 @@ pub mod Holding
 pub mod Following
 pub mod Tracing
 pub mod Bringing
+pub mod Valuing

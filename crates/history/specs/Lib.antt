@@ -7,3 +7,4 @@ pub mod Events
 pub mod Calls
 pub mod Histories
 pub mod Runs
+pub mod Protocols
