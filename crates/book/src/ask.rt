@@ -1,12 +1,11 @@
 // Questions: they change nothing. Each answers what the book shows, and so what every history that leads here says.
-ghost use Rattle.std.specs.Prelude.{◌≡◌, ◌≤◌, List};
+ghost use Rattle.std.specs.Prelude.{◌≡◌, ◌≤◌};
 ghost use Rattle.std.specs.Int.Signed.{mag};
 ghost use Rattle.rights.specs.Covers.{free_of};
-ghost use Rattle.history.specs.Events.{Event};
 ghost use Rattle.history.specs.Histories.{exposure_by, free_by, limit_by, standing};
-ghost use Rattle.history.specs.Runs.{Leads};
+ghost use Rattle.history.specs.Protocols.{ByFormulas};
+ghost use Rattle.history.specs.Runs.{ByEveryHistory};
 ghost use Rattle.history.specs.Sums.{sum};
-ghost use Rattle.history.specs.Views.{Opening};
 ghost use Rattle.book.specs.Shown.{view};
 
 use crate::row::Row;
@@ -16,10 +15,12 @@ use market::units::Tenths;
 use rights::cover::free_tenths;
 
 impl Book {
-    // The sum of what stands: at most 500 rows of at most 10^14 grains each.
+    // The sum of what stands: at most 500 rows of at most 10^14 grains each. Under the protocol rule, over any two
+    // records, it is the sum of the rule's formulas.
     pub fn exposure(&self) -> i64
         ensures stated { result ≡ sum (view self.now).rows }
-        ensures history { (o : Opening) (es : List Event) → Leads o es (view self.now) → result ≡ exposure_by o es }
+        ensures history { ByEveryHistory (view self.now) (λ o es. result ≡ exposure_by o es) }
+        ensures protocol { ByEveryHistory (view self.now) (λ o es. ByFormulas o es result) }
         ensures bounded { mag result ≤ 50000000000000000 }
     {
         self.standing.total
@@ -28,14 +29,14 @@ impl Book {
     // The tenths of a path and hour that nothing that stands draws on.
     pub fn free(&self, path: PathHour) -> Tenths
         ensures stated { result ≡ free_of (view self.now).rights (view self.now).rows path }
-        ensures history { (o : Opening) (es : List Event) → Leads o es (view self.now) → result ≡ free_by o es path }
+        ensures history { ByEveryHistory (view self.now) (λ o es. result ≡ free_by o es path) }
     {
         free_tenths(&self.rights, &self.standing.rows, path)
     }
 
     pub fn limit(&self) -> i64
         ensures stated { result ≡ (view self.now).limit }
-        ensures history { (o : Opening) (es : List Event) → Leads o es (view self.now) → result ≡ limit_by o es }
+        ensures history { ByEveryHistory (view self.now) (λ o es. result ≡ limit_by o es) }
     {
         self.limit
     }
@@ -43,7 +44,7 @@ impl Book {
     // What stands, in order of acceptance.
     pub fn rows(&self) -> &[Row]
         ensures stated { result.now ≡ (view self.now).rows }
-        ensures history { (o : Opening) (es : List Event) → Leads o es (view self.now) → result.now ≡ standing o es }
+        ensures history { ByEveryHistory (view self.now) (λ o es. result.now ≡ standing o es) }
     {
         self.standing.rows.as_slice()
     }

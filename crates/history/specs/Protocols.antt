@@ -6,7 +6,8 @@ use Rattle.prices.specs.Entries.{Entry}
 use Rattle.exposure.specs.Protocol.{protocol_worth}
 use Rattle.rights.specs.declared.row.Row.{Row}
 use Rattle.history.specs.Events.{Event, submitted, withdrew, batched, limited}
-use Rattle.history.specs.Histories.{grains_of}
+use Rattle.history.specs.Histories.{grains_of, standing}
+use Rattle.history.specs.Views.{Opening}
 
 -- each submission was made under the protocol rule, with this day-ahead record, this real-time record and these factors
 abbrev pub UnderProtocol : (ℕ → Entry) → (ℕ → Entry) → Factors → List Event → Type 0
@@ -21,3 +22,8 @@ abbrev pub protocol_sum : (ℕ → Entry) → (ℕ → Entry) → Factors → Li
 protocol_sum ahead real f [] = pos 0
 protocol_sum ahead real f (r ∷ rs) =
     grains_of (protocol_worth ahead real f r.submission r.cover) +ℤ protocol_sum ahead real f rs
+
+-- where a history is under the protocol rule, x is the sum of its formulas over what stands
+abbrev pub ByFormulas : Opening → List Event → ℤ → Type 0
+ByFormulas o es x =
+    (ahead real : ℕ → Entry) (f : Factors) → UnderProtocol ahead real f es → x ≡ protocol_sum ahead real f (standing o es)

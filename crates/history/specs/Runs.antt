@@ -19,6 +19,10 @@ pub data Leads (o : Opening) : List Event → View → Type 0 where
   opened : {v : View} → v ≡ start o → Leads o [] v
   called : {es : List Event} {v v' : View} → Leads o es v → (e : Event) → Did v e v' → Leads o (e ∷ es) v'
 
+-- what holds by every history that leads to a view
+abbrev pub ByEveryHistory : View → (Opening → List Event → Type 0) → Type 0
+ByEveryHistory v P = (o : Opening) (es : List Event) → Leads o es v → P o es
+
 -- an accepted call that ends a batch
 abbrev pub closes : Event → Bool
 closes (submitted s m r) = false

@@ -3,6 +3,7 @@ use Rattle.std.specs.Int.Signed.{mag}
 use Rattle.std.proofs.lemmas.Int.{to_z-of_z}
 use Rattle.history.specs.Sums.{sum}
 use Rattle.history.proofs.Exposures.{mag_within}
+use Rattle.history.proofs.Valuing.{by_formulas}
 use Rattle.book.proofs.Lawful.{sound}
 use Rattle.book.proofs.Totals.{total_bounds}
 use Rattle.book.proofs.state.Book.exposure.Goals as goal
@@ -14,4 +15,9 @@ returns c =
     let s = to_z-of_z w64 ledger.total f ∙ ledger.adds in
     let b = total_bounds ledger in
     let m = mag_within (sum ledger.rows.items) 50000000000000000 b.low b.high in
-    record { stated = s; history = λ o es l. s ∙ ap sum (sound o es c.args.self.now l).rows; bounded = subst (λ (z : ℤ). mag z ≤ 50000000000000000) (sym s) m }
+    record {
+      stated = s;
+      history = λ o es l. s ∙ ap sum (sound o es c.args.self.now l).rows;
+      protocol = λ o es l ahead real f u. s ∙ ap sum (sound o es c.args.self.now l).rows ∙ by_formulas ahead real f o es u;
+      bounded = subst (λ (z : ℤ). mag z ≤ 50000000000000000) (sym s) m;
+    }
