@@ -33,8 +33,9 @@ pub(crate) fn path_claimed(submission: &Submission) -> Option<PathHour>
 pub(crate) fn drawn_by(row: &Row, path: PathHour) -> Tenths
     ensures { result ≡ draw path row.now }
 {
-    match path_claimed(&row.submission) {
-        Some(own) if own == path => row.cover,
-        _ => 0,
+    if path_claimed(&row.submission) == Some(path) {
+        row.cover
+    } else {
+        0
     }
 }
