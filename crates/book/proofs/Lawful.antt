@@ -1,5 +1,6 @@
 -- The laws of a book: its view follows the history, and its total is the sum of the rows it shows.
-use Rattle.std.proofs.Common.{◌≡◌, ◌≤◌, List, [], ◌∷◌, ◌++◌, ℤ, IfOk, Ok, Err, Result, sym, ap, ◌∙◌, subst}
+use Rattle.std.proofs.Common.{◌≡◌, ◌≤◌, List, [], ◌∷◌, ◌++◌, ℤ, IfOk, Some, Ok, Err, Result, vec_items, refl, sym, ap, ◌∙◌, subst}
+use Rattle.std.specs.Option.{option_map}
 use Rattle.market.specs.declared.right.Right.{Right}
 use Rattle.rights.specs.declared.row.Row.{Row}
 use Rattle.rights.specs.Covers.{drawn, free_of}
@@ -14,15 +15,24 @@ use Rattle.history.proofs.Bringing.{brought}
 use Rattle.history.proofs.Following.{follows}
 use Rattle.history.proofs.Holding.{Held, not_both}
 use Rattle.history.proofs.Tracing.{settled, struck_leads}
+use Rattle.book.specs.declared.batch.Batch.{Batch}
+use Rattle.book.specs.declared.batch.Batch.TheVariants.{Plain, Open}
 use Rattle.book.specs.declared.opening.Unopened.{Unopened}
 use Rattle.book.specs.declared.state.Book.{Book}
 use Rattle.book.specs.declared.state.Room.{Room}
 use Rattle.book.specs.Laws.{Alike, ToldBy, Sound, Law}
 use Rattle.book.specs.Opening.{Opened, Begins}
-use Rattle.book.specs.Shown.{view, stated}
+use Rattle.book.specs.Shown.{restored, view, stated, restored_exposure}
 
 total_is : (b : Book) → stated b ≡ sum (view b).rows
 total_is b = b.standing.adds
+
+restored_is : (t : Batch) (total : ℤ) (rs : List Row) → total ≡ sum rs → restored t total ≡ option_map sum (restored t rs)
+restored_is Plain total rs e = refl
+restored_is Open total rs e = ap Some e
+
+restored_sum : (b : Book) → restored_exposure b ≡ option_map sum (view b).restores
+restored_sum b = restored_is b.batch b.before.total (vec_items b.before.rows) b.before.adds
 
 alike : (b b' : Book) → view b ≡ view b' → Alike b b'
 alike b b' e = record {
@@ -32,6 +42,8 @@ alike b b' e = record {
   exposure = total_is b ∙ ap (λ (v : View). sum v.rows) e ∙ sym (total_is b');
   free = λ p. ap (λ (v : View). free_of v.rights v.rows p) e;
   batch = ap (λ (v : View). v.restores) e;
+  batch_exposure = restored_sum b ∙ ap (λ (v : View). option_map sum v.restores) e ∙ sym (restored_sum b');
+  batch_free = λ p. ap (λ (v : View). option_map (λ rs. free_of v.rights rs p) v.restores) e;
 }
 
 told_by : (o : Opening) (es : List Event) (b : Book) → Leads o es (view b) → ToldBy o es b

@@ -1,5 +1,6 @@
 -- What is promised of a book after every run of calls. Assumes nothing.
 use Rattle.std.specs.Prelude.{◌≡◌, ◌≤◌, List, ◌∷◌, ◌++◌, map, ◌<ℤ◌, Ok}
+use Rattle.std.specs.Option.{option_map}
 use Rattle.market.specs.declared.right.PathHour.{PathHour}
 use Rattle.market.specs.declared.submission.Submission.{Submission}
 use Rattle.rights.specs.Covers.{drawn, free_of}
@@ -11,7 +12,7 @@ use Rattle.history.specs.Histories.{standing, exposure_by, free_by, limit_by, ex
 use Rattle.history.specs.Runs.{Brought, Cancelled, Leads}
 use Rattle.history.specs.Views.{Meaning, Opening}
 use Rattle.book.specs.declared.state.Book.{Book}
-use Rattle.book.specs.Shown.{view, stated}
+use Rattle.book.specs.Shown.{view, stated, restored_exposure}
 
 -- books that no reader can tell apart
 pub record Alike (b b' : Book) : Type 0 where
@@ -21,6 +22,8 @@ pub record Alike (b b' : Book) : Type 0 where
   pub exposure : stated b ≡ stated b'
   pub free : (p : PathHour) → free_of (view b).rights (view b).rows p ≡ free_of (view b').rights (view b').rows p
   pub batch : (view b).restores ≡ (view b').restores
+  pub batch_exposure : restored_exposure b ≡ restored_exposure b'
+  pub batch_free : (p : PathHour) → option_map (λ rs. free_of (view b).rights rs p) (view b).restores ≡ option_map (λ rs. free_of (view b').rights rs p) (view b').restores
 
 -- The events of a history lead to this very book; and however the same calls are made from the same opening, they get
 -- these answers, with all that they bring, and end in a book that is alike.

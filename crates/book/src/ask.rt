@@ -6,7 +6,7 @@ ghost use Rattle.history.specs.Histories.{exposure_by, free_by, limit_by, standi
 ghost use Rattle.history.specs.Protocols.{ByFormulas};
 ghost use Rattle.history.specs.Runs.{ByEveryHistory};
 ghost use Rattle.history.specs.Sums.{sum};
-ghost use Rattle.book.specs.Shown.{view};
+ghost use Rattle.book.specs.Shown.{view, stated};
 
 use crate::row::Row;
 use crate::state::Book;
@@ -18,7 +18,8 @@ impl Book {
     // The sum of what stands: at most 500 rows of at most 10^14 grains each. Under the protocol rule, over any two
     // records, it is the sum of the rule's formulas.
     pub fn exposure(&self) -> i64
-        ensures stated { result ≡ sum (view self.now).rows }
+        ensures stated { result ≡ stated self.now }
+        ensures sums { result ≡ sum (view self.now).rows }
         ensures history { ByEveryHistory (view self.now) (λ o es. result ≡ exposure_by o es) }
         ensures protocol { ByEveryHistory (view self.now) (λ o es. ByFormulas o es result) }
         ensures bounded { mag result ≤ 50000000000000000 }
