@@ -1,16 +1,15 @@
 -- Thirty answers of a record are its days where the point is known, and else each is its fault; so the
 -- percentile of what was gathered is the figure.
-use Rattle.std.proofs.Common.{◌≡◌, ℕ, ◌+◌, ◌<◌, Bool, cond, List, length, get_or, ℤ, None, Some, Ok, Err, Option, Result, refl, sym, ap, ◌∙◌, arith}
+use Rattle.std.proofs.Common.{◌≡◌, ℕ, ◌+◌, ◌<◌, cond, List, length, get_or, ℤ, None, Some, Ok, Err, Option, Result, refl, sym, ap, ◌∙◌, arith}
 use Rattle.std.specs.Int.Signed.{le_z}
-use Rattle.std.proofs.lemmas.Int.{ints}
 use Rattle.std.proofs.lemmas.List.FromFn.{fill_by_all}
-use Rattle.std.specs.Ordering.{is_le, int_cmp}
+use Rattle.std.specs.Ordering.{int_cmp}
 use Rattle.market.specs.Bounds.{Bounded}
 use Rattle.prices.specs.declared.fault.RecordFault.{RecordFault}
 use Rattle.prices.specs.Entries.{Entry, known, unknown, on_calendar, answer, Ranged}
 use Rattle.ranking.specs.declared.fault.NoDays.{NoDays as Nothing}
 use Rattle.ranking.specs.Answer.{percentile_of}
-use Rattle.ranking.specs.Order.{upto}
+use Rattle.ranking.specs.Order.{upto, int_upto}
 use Rattle.exposure.specs.declared.fault.RuleFault.{RuleFault}
 use Rattle.exposure.specs.declared.fault.RuleFault.TheVariants.{UnknownPoint, NoDays}
 use Rattle.std.specs.Option.{ok_or, unwrap_or}
@@ -38,13 +37,6 @@ pub told_fault : (e : Entry) (h d : ℕ) (f : RecordFault) → Err f ≡ answer 
 told_fault (known v) h d f is = let z : ◌≡◌ {A = ℕ} 0 1 = cc in absurd (omega arith)
 told_fault (unknown l q) h d f is = let same : f ≡ record { label = l; point = q; hour = h } = cc in ap Err same
 
-at_most : (x y : ℤ) → is_le (int_cmp x y) ≡ le_z x y
-at_most x y = grind (arith, ints)
-
--- prices rank as their numbers do
-pub as_numbers : ◌≡◌ {A = ℤ → ℤ → Bool} (upto int_cmp) le_z
-as_numbers i x y = at_most x y i
-
 module _ (letter percent point : ℕ) where
   pub figure_fault : (e : Entry) (h : ℕ) (f : RecordFault) → Err f ≡ gathered e h → Err (UnknownPoint f) ≡ figure_at e letter percent point h
   unfolding figure_at
@@ -55,7 +47,7 @@ module _ (letter percent point : ℕ) where
   unfolding figure_at
   figure_ranked (known v) h days r is ranks =
       let same : days ≡ days_of v h = ok_same {B = RecordFault} is in
-      ap (ranked letter point h) (ranks ∙ (λ i. percentile_of (as_numbers i) (same i) percent))
+      ap (ranked letter point h) (ranks ∙ (λ i. percentile_of (int_upto i) (same i) percent))
   figure_ranked (unknown l q) h days r is ranks = let z : ◌≡◌ {A = ℕ} 0 1 = cc in absurd (omega arith)
 
   or_ranked : (h : ℕ) (r : Result ℤ Nothing) → result_or r (Err (NoDays letter point h)) ≡ ranked letter point h r
@@ -91,5 +83,5 @@ in_ok (Err f) x e b = let z : ◌≡◌ {A = ℕ} 0 1 = cc in absurd (omega arit
 pub figure_in : (e : Entry) → Ranged e → (h percent : ℕ) (days : List (Option ℤ)) (x : ℤ) → Ok days ≡ gathered e h → Ok x ≡ percentile_of (upto int_cmp) days percent → Bounded 4000000 x
 figure_in (known v) ranged h percent days x is ranks =
     let same : days ≡ days_of v h = ok_same {B = RecordFault} is in
-    in_ok (percentile_of le_z (days_of v h) percent) x (ranks ∙ (λ i. percentile_of (as_numbers i) (same i) percent)) (percentile_within v h percent ranged)
+    in_ok (percentile_of le_z (days_of v h) percent) x (ranks ∙ (λ i. percentile_of (int_upto i) (same i) percent)) (percentile_within v h percent ranged)
 figure_in (unknown l q) ranged h percent days x is ranks = let z : ◌≡◌ {A = ℕ} 0 1 = cc in absurd (omega arith)

@@ -2,13 +2,14 @@
 -- lacks, gives the third with a factor above 0 on both sides, which goes out. Assumes nothing.
 use Rattle.std.specs.Prelude.{◌≡◌, ℕ, ◌*◌, ◌<◌, ◌≤◌, Bool, true, false, not, T, ◌⊎◌, nat_le}
 use Rattle.std.proofs.Math.Dec.{nleb→lt}
-use Rattle.ranking.specs.Order.{TotalOrder}
+use Rattle.ranking.specs.Order.{TotalOrder, upto}
 use Rattle.std.specs.declared.cmp.Ordering.TheVariants.{Less, Equal}
 use Rattle.std.specs.Cmp.{IsTotalOrder, nat_cmp_total}
-use Rattle.std.specs.Ordering.{nat_cmp, MatchOrdering}
+use Rattle.std.specs.Ordering.{is_le, nat_cmp, MatchOrdering}
 use Rattle.std.proofs.Common.{sym, ap, ◌∙◌, inl, inr, leb→le, le→leb, le_of_mul-le-mul_right, mul-le-mul_right, mul_comm, mul_assoc, arith}
 use Rattle.std.proofs.lemmas.Bool.Decides.{nat_tests}
 use Rattle.std.proofs.lemmas.Cmp.{ranked}
+use Rattle.factors.specs.declared.ratio.Ratio.{Ratio}
 use Rattle.factors.specs.Ratios.{not_above, crossed}
 
 -- the last two factors change places
@@ -76,3 +77,10 @@ crossed_total = record {
       (λ h. through z.top z.bottom x.top x.bottom y.top y.bottom x.proper h xy)
       (λ h. through z.top z.bottom y.top y.bottom x.top x.bottom y.proper h yx);
 }
+
+at_most : (a b : ℕ) → is_le (nat_cmp a b) ≡ nat_le a b
+at_most a b = grind (arith, nat_tests)
+
+-- the order of `Ord` is the one that the factors are stated over
+pub crossed_upto : ◌≡◌ {A = Ratio → Ratio → Bool} (upto crossed) not_above
+crossed_upto i x y = at_most (x.top * y.bottom) (y.top * x.bottom) i

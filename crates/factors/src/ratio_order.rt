@@ -8,6 +8,7 @@ ghost use Rattle.factors.specs.Ratios.{crossed};
 ghost use Rattle.factors.specs.Crossing.{crossed_total};
 
 use crate::ratio::Ratio;
+use ranking::order::ByOrd;
 use std::cmp::Ordering;
 
 impl PartialEq for Ratio {
@@ -49,3 +50,5 @@ impl Ord for Ratio {
         this.cmp(&that)
     }
 }
+
+impl ByOrd for Ratio {}

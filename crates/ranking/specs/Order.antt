@@ -1,10 +1,11 @@
 -- Total orders, as a test that says whether one element does not come after another. Assumes nothing.
-use Rattle.std.specs.Prelude.{◌≡◌, Bool, false, T, ◌⊎◌, int_le}
+use Rattle.std.specs.Prelude.{◌≡◌, Bool, false, T, ◌⊎◌, ℤ, int_le}
 use Rattle.std.specs.declared.cmp.Ordering.{Ordering}
 use Rattle.std.specs.declared.cmp.Ordering.TheVariants.{Less, Equal, Greater}
 use Rattle.std.specs.Cmp.{IsTotalOrder}
-use Rattle.std.specs.Ordering.{is_le, is_gt, ordering_reverse}
-use Rattle.std.proofs.Common.{rules, refl, ap, inl, inr, true≢false}
+use Rattle.std.specs.Ordering.{is_le, is_gt, int_cmp, ordering_reverse}
+use Rattle.std.proofs.Common.{rules, arith, refl, ap, inl, inr, true≢false}
+use Rattle.std.proofs.lemmas.Int.{ints}
 use Rattle.std.proofs.lemmas.Cmp.{upto as chained}
 
 -- any two compare, and the order is transitive
@@ -36,6 +37,13 @@ at_most Greater n = absurd (true≢false n)
 -- prices, as numbers
 pub int_le_total : TotalOrder int_le
 int_le_total = record { compares = search rules; transitive = search rules }
+
+int_at_most : (x y : ℤ) → is_le (int_cmp x y) ≡ int_le x y
+int_at_most x y = grind (arith, ints)
+
+-- their `Ord` ranks them so
+pub int_upto : ◌≡◌ {A = ℤ → ℤ → Bool} (upto int_cmp) int_le
+int_upto i x y = int_at_most x y i
 
 -- what `Ord` promises of its comparison makes a total order
 pub total : {E : Type 0} (cmp : E → E → Ordering) → IsTotalOrder cmp → TotalOrder (upto cmp)

@@ -3,4 +3,5 @@
 
 pub mod fault;
 pub mod letters;
+pub mod order;
 pub mod percentile;

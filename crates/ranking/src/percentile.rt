@@ -1,11 +1,11 @@
 // The percentile of the elements present among some days.
 ghost use Rattle.std.specs.Prelude.{◌≡◌, ◌≤◌, length};
 ghost use Rattle.ranking.specs.Counts.{present, share};
-ghost use Rattle.ranking.specs.Order.{upto};
 ghost use Rattle.ranking.specs.Percentile.{Percentile};
 ghost use Rattle.ranking.specs.Answer.{percentile_of};
 
 use crate::fault::NoDays;
+use crate::order::Ordered;
 
 // How many days have an element.
 #[tactic(auto, using(crate::proofs::Tallies::present_counts))]
@@ -30,9 +30,9 @@ fn share_of(p: u8, n: usize) -> usize
 // it; among equals, the earliest day's. A candidate is that one if it reaches so many and fewer
 // come before it. Both loops and their tallies are a rule of the project: the counted days are gone through for each
 // candidate, and the block is left by the answer.
-pub fn percentile<E: Ord + Copy>(days: &[Option<E>], p: u8) -> Result<E, NoDays>
-    ensures is { result ≡ percentile_of (upto E.cmp) days.now p }
-    ensures means { Percentile (upto E.cmp) days.now p result }
+pub fn percentile<E: Ordered>(days: &[Option<E>], p: u8) -> Result<E, NoDays>
+    ensures is { result ≡ percentile_of E.upto days.now p }
+    ensures means { Percentile E.upto days.now p result }
 {
     if p < 1 || 100 < p {
         return Err(NoDays);
@@ -51,10 +51,10 @@ pub fn percentile<E: Ord + Copy>(days: &[Option<E>], p: u8) -> Result<E, NoDays>
             let mut before = 0;
             for counted in days {
                 if let Some(other) = *counted {
-                    if other <= candidate {
+                    if other.not_after(&candidate) {
                         reached += 1;
                     }
-                    if other < candidate {
+                    if !candidate.not_after(&other) {
                         before += 1;
                     }
                 }

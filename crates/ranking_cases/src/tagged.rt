@@ -1,9 +1,21 @@
-// A price with the day that it is of: prices rank, and the day tells equal ones apart.
+// A price with the day that it is of: prices rank, and the day tells equal ones apart, in its own `Ord` too.
+ghost use Rattle.std.specs.Prelude.{int_le};
+ghost use Rattle.std.proofs.Common.{rules};
 
-// The comparisons leave the day out, so that a test that reads it says of which day an answer is.
-#[derive_where(Clone, Copy, PartialEq, Eq, PartialOrd, Ord, Debug)]
+use ranking::order::Ordered;
+
+#[derive(Clone, Copy, PartialEq, Eq, PartialOrd, Ord, Debug)]
 pub struct Tagged {
     pub price: i32,
-    #[derive_where(skip(EqHashOrd))]
     pub day: u8,
+}
+
+impl Ordered for Tagged {
+    ghost upto = { λ x y. int_le x.price y.price };
+
+    ghost total = { Prim.search rules };
+
+    fn not_after(&self, other: &Tagged) -> bool {
+        self.price <= other.price
+    }
 }

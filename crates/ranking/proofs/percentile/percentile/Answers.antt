@@ -1,17 +1,21 @@
 -- The counts of a candidate decide whether it fits. The first that fits is the answer; the loop cannot
 -- run out, since one fits.
-use Rattle.std.proofs.Common.{◌≡◌, ℕ, ◌+◌, ◌<◌, Bool, List, length, get_or, Some, None, Ok, Err, Option, sym, ap, ◌∙◌, subst, inl, inr, arith, below_more}
+use Rattle.std.proofs.Common.{◌≡◌, ℕ, ◌+◌, ◌<◌, Bool, true, false, not, List, length, get_or, Some, None, Ok, Err, Option, sym, ap, ◌∙◌, subst, inl, inr, arith, rules, below_more}
 use Rattle.std.proofs.lemmas.List.{get_or_read}
 use Rattle.ranking.specs.Counts.{share}
-use Rattle.ranking.specs.Order.{upto, total}
 use Rattle.ranking.specs.Percentile.{on_day, Least, Answered, Unanswered}
-use Rattle.ranking.proofs.Comparisons.{at_most_is, below_is}
 use Rattle.ranking.proofs.Worked.{percentile_is}
 use Rattle.ranking.proofs.Shares.{share_low, share_high}
 use Rattle.ranking.proofs.Tallies.{one, one_yes, one_no, one_none, tally_turn, all_counted}
 use Rattle.ranking.proofs.Candidates.{Fits, under, least_fits, equal_fits, some_fits, within_some}
 use Rattle.ranking.proofs.percentile.percentile.Goals as goal
-use Rattle.ranking.proofs.percentile.percentile.Goals.{in-Some-counted+then-lt, then-le, else-le, in-Some-counted+else-lt, in_default-counted}
+use Rattle.ranking.proofs.percentile.percentile.Goals.{in-Some-counted+then-not-not_after, then-not_after, else-not_after, in-Some-counted+else-not-not_after, in_default-counted}
+
+one_before : {E : Type 0} (le : E → E → Bool) (x : E) (o : Option E) (z : E) (b : Bool) → o ≡ Some z → b ≡ le x z → b ≡ false → one (under le x) o ≡ 1
+one_before le x o z b is made f = one_yes (under le x) o z (not b) is (ap not made) (ap not f)
+
+one_not_before : {E : Type 0} (le : E → E → Bool) (x : E) (o : Option E) (z : E) (b : Bool) → o ≡ Some z → b ≡ le x z → b ≡ true → one (under le x) o ≡ 0
+one_not_before le x o z b is made t = one_no (under le x) o z (not b) is (ap not made) (ap not t)
 
 -- the element that stands at an index
 at_day : {E : Type 0} (xs : List (Option E)) (i : ℕ) (o : Option E) (x : E) → i < length xs → o ≡ get_or xs i o → o ≡ Some x → on_day xs i ≡ Some x
@@ -22,41 +26,33 @@ same_some o x y p q = cc
 
 pub loop-counted-preserved : goal.loop-counted-preserved
 loop-counted-preserved g c =
-    let cmp = g.E.Ord.cmp in
+    let le = g.E.Ordered.upto in
     let x = c.in-Some.candidate in
     let xs = c.args.days.now in
     let o = c.counted-item.result in
     let n = c.loop-counted.counted-index in
-    let at-most : g.row.E.Denot → Bool = λ z. upto cmp z x in
-    let below : g.row.E.Denot → Bool = under (upto cmp) x in
-    let at-most-says = at_most_is g.E.PartialOrd.partial_cmp cmp g.met.E.Ord.matches_partial_cmp in
-    let below-says = below_is g.E.PartialOrd.partial_cmp cmp g.met.E.Ord.matches_partial_cmp g.met.E.Ord.total in
+    let at-most : g.row.E.Denot → Bool = λ z. le z x in
+    let below : g.row.E.Denot → Bool = under le x in
     let reached : c.match-counted.reached ≡ c.loop-counted.reached + one at-most o =
     elim c.match-counted.branch [
-      | in-Some-counted+then-lt w ↦
-          let z = w.in-Some-counted.other in
-          let says = at-most-says z x w.le.result w.le.ensures in
-          elim w.if-le.branch [
-            | then-le v ↦ omega (arith, w.reached-is, v.reached-is, one_yes at-most o z w.le.result w.in-Some-counted.is says v.if-le.true)
-            | else-le v ↦ omega (arith, w.reached-is, v.reached-is, one_no at-most o z w.le.result w.in-Some-counted.is says v.if-le.false)
+      | in-Some-counted+then-not-not_after w ↦
+          elim w.if-not_after.branch [
+            | then-not_after v ↦ omega (arith, w.reached-is, v.reached-is, one_yes at-most o w.in-Some-counted.other w.not_after.result w.in-Some-counted.is w.not_after.ensures v.if-not_after.true)
+            | else-not_after v ↦ omega (arith, w.reached-is, v.reached-is, one_no at-most o w.in-Some-counted.other w.not_after.result w.in-Some-counted.is w.not_after.ensures v.if-not_after.false)
           ]
-      | in-Some-counted+else-lt w ↦
-          let z = w.in-Some-counted.other in
-          let says = at-most-says z x w.le.result w.le.ensures in
-          elim w.if-le.branch [
-            | then-le v ↦ omega (arith, w.reached-is, v.reached-is, one_yes at-most o z w.le.result w.in-Some-counted.is says v.if-le.true)
-            | else-le v ↦ omega (arith, w.reached-is, v.reached-is, one_no at-most o z w.le.result w.in-Some-counted.is says v.if-le.false)
+      | in-Some-counted+else-not-not_after w ↦
+          elim w.if-not_after.branch [
+            | then-not_after v ↦ omega (arith, w.reached-is, v.reached-is, one_yes at-most o w.in-Some-counted.other w.not_after.result w.in-Some-counted.is w.not_after.ensures v.if-not_after.true)
+            | else-not_after v ↦ omega (arith, w.reached-is, v.reached-is, one_no at-most o w.in-Some-counted.other w.not_after.result w.in-Some-counted.is w.not_after.ensures v.if-not_after.false)
           ]
       | in_default-counted w ↦ omega (arith, w.reached-is, one_none at-most o w.in_default-counted.is)
     ] in
     let before : c.match-counted.before ≡ c.loop-counted.before + one below o =
     elim c.match-counted.branch [
-      | in-Some-counted+then-lt w ↦
-          let z = w.in-Some-counted.other in
-          omega (arith, w.before-is, one_yes below o z w.lt.result w.in-Some-counted.is (below-says z x w.lt.result w.lt.ensures) w.if-lt.true)
-      | in-Some-counted+else-lt w ↦
-          let z = w.in-Some-counted.other in
-          omega (arith, w.before-is, one_no below o z w.lt.result w.in-Some-counted.is (below-says z x w.lt.result w.lt.ensures) w.if-lt.false)
+      | in-Some-counted+then-not-not_after w ↦
+          omega (arith, w.before-is, one_before le x o w.in-Some-counted.other w.not_after-in-Some-counted.result w.in-Some-counted.is w.not_after-in-Some-counted.ensures w.if-not-not_after.true)
+      | in-Some-counted+else-not-not_after w ↦
+          omega (arith, w.before-is, one_not_before le x o w.in-Some-counted.other w.not_after-in-Some-counted.result w.in-Some-counted.is w.not_after-in-Some-counted.ensures w.if-not-not_after.false)
       | in_default-counted w ↦ omega (arith, w.before-is, one_none below o w.in_default-counted.is)
     ] in
     let a = tally_turn at-most xs n c.loop-counted.reached c.match-counted.reached o c.loop-counted-test.true c.counted-item.is c.loop-counted.invariant.0 c.loop-counted.invariant.2 reached in
@@ -65,7 +61,7 @@ loop-counted-preserved g c =
 
 pub loop-day-preserved : goal.loop-day-preserved
 loop-day-preserved g c e y lt is fits =
-    let le = upto g.E.Ord.cmp in
+    let le = g.E.Ordered.upto in
     let x = c.in-Some.candidate in
     let xs = c.args.days.now in
     let k = c.share_of-k.result in
@@ -84,8 +80,8 @@ loop-day-preserved g c e y lt is fits =
 
 pub returns-then-before-k : goal.returns-then-before-k
 returns-then-before-k g c =
-    let le = upto g.E.Ord.cmp in
-    let order = total g.E.Ord.cmp g.met.E.Ord.total in
+    let le = g.E.Ordered.upto in
+    let total = g.met.E.Ordered.total in
     let x = c.in-Some.candidate in
     let xs = c.args.days.now in
     let p = c.args.p in
@@ -104,29 +100,32 @@ returns-then-before-k g c =
         within = c.loop-day-test.true;
         stands = here;
         enough = fits.enough;
-        least = least_fits le order xs k x fits;
-        earliest = λ e y lt is a b. c.loop-day.invariant e y lt is (equal_fits le order xs k x y fits a b);
+        least = least_fits le total xs k x fits;
+        earliest = λ e y lt is a b. c.loop-day.invariant e y lt is (equal_fits le total xs k x y fits a b);
       });
     } in
-    record { is = percentile_is le xs p (Ok x) answered; means = answered }
+    record {
+      is = ◌∙◌ {b = Ok x} (search rules) (percentile_is le xs p (Ok x) answered);
+      means = answered;
+    }
 
 pub returns-after-loop-day : goal.returns-after-loop-day
 returns-after-loop-day g c =
-    let le = upto g.E.Ord.cmp in
+    let le = g.E.Ordered.upto in
     let xs = c.args.days.now in
     let n = c.count_present-n.result in
     let low = share_low c.args.p n (omega arith) (omega arith) in
     let high = share_high c.args.p n (omega arith) in
-    let found = some_fits le (total g.E.Ord.cmp g.met.E.Ord.total) xs c.share_of-k.result (omega (arith, low, c.share_of-k.ensures)) (omega (arith, high, c.share_of-k.ensures, c.count_present-n.ensures.is)) in
+    let found = some_fits le g.met.E.Ordered.total xs c.share_of-k.result (omega (arith, low, c.share_of-k.ensures)) (omega (arith, high, c.share_of-k.ensures, c.count_present-n.ensures.is)) in
     let within = within_some xs found.0 found.1 found.2 in
     absurd (c.loop-day.invariant found.0 found.1 (omega (arith, within, c.loop-day-test.false)) found.2 found.3)
 
 pub returns-then-p-lt1 : goal.returns-then-p-lt1
 returns-then-p-lt1 g c =
     let none : Unanswered c.args.days.now c.args.p = inr (elim c.then-p-lt1.either [ inl h ↦ inl h | inr h ↦ inr h.1 ]) in
-    record { is = percentile_is (upto g.E.Ord.cmp) c.args.days.now c.args.p (Err (record {})) none; means = none }
+    record { is = percentile_is g.E.Ordered.upto c.args.days.now c.args.p (Err (record {})) none; means = none }
 
 pub returns-then-n-eq0 : goal.returns-then-n-eq0
 returns-then-n-eq0 g c =
     let none : Unanswered c.args.days.now c.args.p = inl (omega (arith, c.count_present-n.ensures.is)) in
-    record { is = percentile_is (upto g.E.Ord.cmp) c.args.days.now c.args.p (Err (record {})) none; means = none }
+    record { is = percentile_is g.E.Ordered.upto c.args.days.now c.args.p (Err (record {})) none; means = none }
