@@ -12,19 +12,20 @@ use prices::record::Record;
 use ranking::letters::percent_of;
 use ranking::percentile::percentile;
 
-// A record at a point and an hour. It is asked by letters, which are chars as the faults have them.
+// A record at a point and an hour. It is asked by letters, which are chars as the faults have them. The record is
+// lent, since one that holds its prices is long to copy.
 #[derive(Clone, Copy)]
-pub(crate) struct Asked<R> {
-    pub(crate) record: R,
+pub(crate) struct Asked<'a, R> {
+    pub(crate) record: &'a R,
     pub(crate) point: Point,
     pub(crate) hour: Hour,
 }
 
-impl<R: Record> Asked<R> {
+impl<'a, R: Record> Asked<'a, R> {
     // What the thirty days have. No heap: the array has room for each. The day is what is asked, and its place
     // follows from it.
     fn gather(&self) -> Result<[Option<Price>; DAYS as usize], RecordFault>
-        ensures { result ≡ gathered (R.Record.meaning self.now.record self.now.point) self.now.hour }
+        ensures { result ≡ gathered (R.Record.meaning self.now.record.now self.now.point) self.now.hour }
     {
         let mut days = [None; DAYS as usize];
         for day in 1..=DAYS {
@@ -36,7 +37,7 @@ impl<R: Record> Asked<R> {
     // The percentile of the thirty days; without any, or without a percentile, the fault names the letter,
     // the point and the hour.
     pub(crate) fn figure(&self, letter: char, percent: Option<u8>) -> Result<Figure, RuleFault>
-        ensures { in_cents result ≡ figure_at (R.Record.meaning self.now.record self.now.point) letter (unwrap_or percent 0) self.now.point self.now.hour }
+        ensures { in_cents result ≡ figure_at (R.Record.meaning self.now.record.now self.now.point) letter (unwrap_or percent 0) self.now.point self.now.hour }
     {
         let days = self.gather()?;
         let none = RuleFault::NoDays {
@@ -51,7 +52,7 @@ impl<R: Record> Asked<R> {
 
     // The percentile that the letter stands for.
     pub(crate) fn lettered(&self, letter: char) -> Result<Figure, RuleFault>
-        ensures { in_cents result ≡ lettered_at (R.Record.meaning self.now.record self.now.point) letter self.now.point self.now.hour }
+        ensures { in_cents result ≡ lettered_at (R.Record.meaning self.now.record.now self.now.point) letter self.now.point self.now.hour }
     {
         self.figure(letter, percent_of(letter))
     }

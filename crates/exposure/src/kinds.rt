@@ -21,7 +21,7 @@ impl<D: Record, T: Record> Protocol<D, T> {
         ensures { result ≡ bid_worth (D.Record.meaning self.now.day_ahead) self.now.factors submission.now.curve point submission.now.hour }
     {
         let ahead = Asked {
-            record: self.day_ahead,
+            record: &self.day_ahead,
             point,
             hour: submission.hour(),
         };
@@ -38,15 +38,16 @@ impl<D: Record, T: Record> Protocol<D, T> {
     {
         let hour = submission.hour();
         let ahead = Asked {
-            record: self.day_ahead,
+            record: &self.day_ahead,
             point,
             hour,
         };
         let a = ahead.lettered('a')?;
         let b = ahead.lettered('b')?;
         let spread = Spread::new(self.real_time, self.day_ahead);
+        let floor = Floor::new(spread);
         let shortfall = Asked {
-            record: Floor::new(spread),
+            record: &floor,
             point,
             hour,
         };
@@ -62,7 +63,7 @@ impl<D: Record, T: Record> Protocol<D, T> {
         ensures { result ≡ three_part_worth (D.Record.meaning self.now.day_ahead) submission.now.curve point submission.now.hour }
     {
         let ahead = Asked {
-            record: self.day_ahead,
+            record: &self.day_ahead,
             point,
             hour: submission.hour(),
         };
@@ -81,12 +82,13 @@ impl<D: Record, T: Record> Protocol<D, T> {
         ensures { result ≡ path_worth (T.Record.meaning self.now.real_time) submission.now.curve source sink submission.now.hour cover }
     {
         let path = Path::new(self.real_time, source, sink);
-        let floor = Asked {
-            record: Floor::new(path),
+        let floor = Floor::new(path);
+        let floored = Asked {
+            record: &floor,
             point: source,
             hour: submission.hour(),
         };
-        let w = floor.lettered('u')?;
+        let w = floored.lettered('u')?;
         point_to_point(&submission.curve(), w, cover).ok_or(RuleFault::CoverAboveQuantity)
     }
 }

@@ -13,12 +13,12 @@ back x b = to_z-of_z w32 x (fits32 4000000 x b (omega arith))
 pub returns-in_err-days : goal.returns-in_err-days
 returns-in_err-days g c =
     let p = err_from_is_err_and c.from_residual.result c.from_residual.ensures.1 in
-    rw (p.1, p.2) (figure_fault c.args.letter _ c.args.self.now.point (g.R.Record.meaning c.args.self.now.record c.args.self.now.point) c.args.self.now.hour _ c.in_err-days.ensures)
+    rw (p.1, p.2) (figure_fault c.args.letter _ c.args.self.now.point (g.R.Record.meaning c.args.self.now.record.now c.args.self.now.point) c.args.self.now.hour _ c.in_err-days.ensures)
 
 pub returns-in_err-percent : goal.returns-in_err-percent
 returns-in_err-percent g c =
     let q = c.args.self.now in
-    let e = g.R.Record.meaning q.record q.point in
+    let e = g.R.Record.meaning q.record.now q.point in
     let letter = c.args.letter in
     let p = err_from_is_err_and c.from_residual-in_err-percent.result c.from_residual-in_err-percent.ensures.1 in
     let none = no_percent c.args.percent _ _ c.in_err-percent.ensures.value in
@@ -27,7 +27,7 @@ returns-in_err-percent g c =
 pub returns-in_err-cents : goal.returns-in_err-cents
 returns-in_err-cents g c =
     let q = c.args.self.now in
-    let e = g.R.Record.meaning q.record q.point in
+    let e = g.R.Record.meaning q.record.now q.point in
     let p = err_from_is_err_and c.from_residual-in_err-cents.result c.from_residual-in_err-cents.ensures.1 in
     let some = some_percent c.args.percent _ _ c.in_ok-percent.ensures.value in
     rw (p.1, p.2, some) (c.in_err-cents.ensures ∙ figure_or c.args.letter c.in_ok-percent.percent q.point e q.hour c.in_ok-days.days c.percentile.result c.in_ok-days.ensures c.percentile.ensures.is)
@@ -37,16 +37,16 @@ invariant_of-result g c =
     let q = c.args.self.now in
     let x = c.in_ok-cents.cents in
     let found = ok_from_or c.percentile.result _ x c.in_ok-cents.ensures in
-    let b = figure_in (g.R.Record.meaning q.record q.point) (g.R.Record.ranged q.record q.point) q.hour c.in_ok-percent.percent c.in_ok-days.days x c.in_ok-days.ensures (found ∙ c.percentile.ensures.is) in
+    let b = figure_in (g.R.Record.meaning q.record.now q.point) (g.R.Record.ranged q.record.now q.point) q.hour c.in_ok-percent.percent c.in_ok-days.days x c.in_ok-days.ensures (found ∙ c.percentile.ensures.is) in
     let same = back x b in
     record { low = omega (arith, ints, b.low, same); high = omega (arith, ints, b.high, same) }
 
 pub returns : goal.returns
 returns g c =
     let q = c.args.self.now in
-    let e = g.R.Record.meaning q.record q.point in
+    let e = g.R.Record.meaning q.record.now q.point in
     let x = c.in_ok-cents.cents in
     let found = ok_from_or c.percentile.result _ x c.in_ok-cents.ensures in
-    let b = figure_in e (g.R.Record.ranged q.record q.point) q.hour c.in_ok-percent.percent c.in_ok-days.days x c.in_ok-days.ensures (found ∙ c.percentile.ensures.is) in
+    let b = figure_in e (g.R.Record.ranged q.record.now q.point) q.hour c.in_ok-percent.percent c.in_ok-days.days x c.in_ok-days.ensures (found ∙ c.percentile.ensures.is) in
     let some = some_percent c.args.percent _ _ c.in_ok-percent.ensures.value in
     rw some (ap Ok (back x b) ∙ c.in_ok-cents.ensures ∙ figure_or c.args.letter c.in_ok-percent.percent q.point e q.hour c.in_ok-days.days c.percentile.result c.in_ok-days.ensures c.percentile.ensures.is)

@@ -22,7 +22,7 @@ pub returns-in_err-s : goal.returns-in_err-s
 unfolding offer_worth
 returns-in_err-s g c =
     let p = err_from_is_err_and c.from_residual-in_err-s.result c.from_residual-in_err-s.ensures.1 in
-    let same = shortfall_is g.T.Record.meaning g.D.Record.meaning c.new.result.inner c.new-spread.result c.args.self.now.real_time c.args.self.now.day_ahead c.new.ensures c.new-spread.ensures.first c.new-spread.ensures.second c.args.point in
+    let same = shortfall_is g.T.Record.meaning g.D.Record.meaning c.new-floor.result.inner c.new-spread.result c.args.self.now.real_time c.args.self.now.day_ahead c.new-floor.ensures c.new-spread.ensures.first c.new-spread.ensures.second c.args.point in
     rw (p.1, p.2, sym c.hour-hour.ensures)
     (goes c.in_ok-a.a.cents _ _ _ c.in_ok-a.ensures
     (goes c.in_ok-b.b.cents _ _ _ c.in_ok-b.ensures (stops _ _ _ (c.in_err-s.ensures ∙ ap (λ (e : Entry). figure_at e 115 90 c.args.point c.hour-hour.result) same))))
@@ -30,7 +30,7 @@ returns-in_err-s g c =
 pub returns : goal.returns
 unfolding offer_worth
 returns g c =
-    let same = shortfall_is g.T.Record.meaning g.D.Record.meaning c.new.result.inner c.new-spread.result c.args.self.now.real_time c.args.self.now.day_ahead c.new.ensures c.new-spread.ensures.first c.new-spread.ensures.second c.args.point in
+    let same = shortfall_is g.T.Record.meaning g.D.Record.meaning c.new-floor.result.inner c.new-spread.result c.args.self.now.real_time c.args.self.now.day_ahead c.new-floor.ensures c.new-spread.ensures.first c.new-spread.ensures.second c.args.point in
     rw (sym c.hour-hour.ensures, sym c.curve.ensures)
     (goes c.in_ok-a.a.cents _ _ _ c.in_ok-a.ensures
     (goes c.in_ok-b.b.cents _ _ _ c.in_ok-b.ensures
