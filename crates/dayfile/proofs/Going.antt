@@ -15,13 +15,13 @@ use Rattle.dayfile.specs.Runs.{call_line, text, asked, told, left}
 use Rattle.dayfile.proofs.Writing.{over_then, line_long, closing_long}
 
 -- how long a line can be
-line_short : (c n : ℕ) (x : ℤ) → n < 100 → mag x ≤ 50000000000000000 → length (line c n x) ≤ 24
+pub line_short : (c n : ℕ) (x : ℤ) → n < 100 → mag x ≤ 50000000000000000 → length (line c n x) ≤ 24
 line_short c n x hn hx =
     let d : length (decimal n) ≤ 2 = length-decimal-le 2 n (lit< tt) (omega arith) (omega arith) in
     let s : length (signed_decimal x) ≤ 18 = length_signed_le 17 x (omega arith) (omega arith) in
     omega (arith, line_long c n x)
 
-closing_short : (place : ℕ) → place ≤ 65536 → length (closing place) ≤ 11
+pub closing_short : (place : ℕ) → place ≤ 65536 → length (closing place) ≤ 11
 closing_short place h =
     let d : length (decimal place) ≤ 5 = length-decimal-le 5 place (lit< tt) (omega arith) (omega arith) in
     omega (arith, closing_long place)

@@ -1,3 +1,4 @@
+pub mod Digits
 pub mod Writing
 pub mod Going
 pub mod Opening

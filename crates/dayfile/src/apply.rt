@@ -14,16 +14,16 @@ use market::step::Step;
 use market::submission::Submission;
 
 // A letter of the file. `Display` for one letter would be no plainer.
-pub(crate) fn letter_of(call: &Call) -> char
+pub(crate) fn letter_of(call: &Call) -> u8
     ensures { result ≡ letter (means call.now) }
 {
     match call {
-        Call::Submit { .. } => 'S',
-        Call::Withdraw(_) => 'W',
-        Call::OpenBatch => 'O',
-        Call::KeepBatch => 'K',
-        Call::CancelBatch => 'C',
-        Call::Limit(_) => 'L',
+        Call::Submit { .. } => b'S',
+        Call::Withdraw(_) => b'W',
+        Call::OpenBatch => b'O',
+        Call::KeepBatch => b'K',
+        Call::CancelBatch => b'C',
+        Call::Limit(_) => b'L',
     }
 }
 

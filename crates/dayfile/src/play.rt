@@ -6,7 +6,7 @@ ghost use Rattle.dayfile.specs.Puts.{Filled};
 ghost use Rattle.dayfile.specs.Runs.{text};
 
 use crate::apply::{apply, letter_of, returned};
-use crate::line::{call_line, closing_line, put};
+use crate::line::{put_closing, put_line};
 use crate::run::ANSWER_BYTES;
 use book::state::Book;
 use dayformat::calls::next_call;
@@ -36,11 +36,11 @@ pub(crate) fn play<R: Rule>(
         };
         let letter = letter_of(&call);
         let number = returned(apply(book, rule, call));
-        at = put(answer, at, &call_line(letter, number, book.exposure()));
+        at = put_line(answer, at, letter, number, book.exposure());
         rest = after;
     }
     if rest.is_empty() {
         return at;
     }
-    put(answer, at, &closing_line(size - rest.len()))
+    put_closing(answer, at, size - rest.len())
 }

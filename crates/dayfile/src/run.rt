@@ -5,7 +5,7 @@ ghost use Rattle.dayfile.specs.Lines.{closing};
 ghost use Rattle.dayfile.specs.Puts.{FilledOr};
 ghost use Rattle.dayfile.specs.Runs.{under, lines, Answered};
 
-use crate::line::{closing_line, put};
+use crate::line::put_closing;
 use crate::play::play;
 use crate::refusal::Refusal;
 use book::state::{Book, Room};
@@ -79,6 +79,6 @@ pub fn run(room: Room, file: &[u8], answer: &mut [u8]) -> Result<usize, Refusal>
     // `unwrap_or_else` was tried, and that proof didn't close: what its closure leaves of the bytes is out of reach.
     match play_file(room, file, lines) {
         Some(count) => Ok(count),
-        None => Ok(put(lines, 0, &closing_line(0))),
+        None => Ok(put_closing(lines, 0, 0)),
     }
 }
