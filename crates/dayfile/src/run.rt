@@ -1,6 +1,6 @@
 // The run of a whole file.
 ghost use Rattle.std.specs.Prelude.{◌≤◌, length, IfOk};
-ghost use Rattle.dayformat.specs.Headers.{head_of};
+ghost use Rattle.dayformat.specs.Headers.{lent_head};
 ghost use Rattle.dayfile.specs.Lines.{closing};
 ghost use Rattle.dayfile.specs.Puts.{FilledOr};
 ghost use Rattle.dayfile.specs.Runs.{under, lines, Answered};
@@ -9,8 +9,8 @@ use crate::line::put_closing;
 use crate::play::play;
 use crate::refusal::Refusal;
 use book::state::{Book, Room};
-use dayformat::header::{Header, Valuation};
-use dayformat::headers::read_header;
+use dayformat::header::{LentHeader, LentValuation};
+use dayformat::headers::lend_header;
 use exposure::protocol::Protocol;
 use exposure::rates::Rates;
 use exposure::rule::Rule;
@@ -23,18 +23,18 @@ use prices::page::Page;
 pub const ANSWER_BYTES: usize = 49_152;
 
 // Opens the book of a header, and makes the calls of its file under a rule; none where the book is refused. What is asked
-// of file and calls is what `read_header` promises of them, and it goes on to `play`; that and room, file and answer
+// of file and calls is what `lend_header` promises of them, and it goes on to `play`; that and room, file and answer
 // go on as they are: a type would be made in one step and opened in the next.
 fn open_and_play<R: Rule>(
     room: Room,
-    header: &Header,
+    header: &LentHeader,
     rule: &mut R,
     file: &[u8],
     answer: &mut [u8; ANSWER_BYTES],
 ) -> Option<usize>
     requires short { length file.now ≤ 65536 }
     requires inside { length header.now.calls.now ≤ length file.now }
-    ensures { FilledOr (closing 0) (under file.now (head_of header.now) (R.worth rule.old)) answer.old result answer.new }
+    ensures { FilledOr (closing 0) (under file.now (lent_head header.now) (R.worth rule.old)) answer.old result answer.new }
 {
     let rights = header.rights.read::<Right>();
     let mut book = Book::open(room, header.limit, &rights).ok()?;
@@ -45,13 +45,13 @@ fn open_and_play<R: Rule>(
 fn play_file(room: Room, file: &[u8], answer: &mut [u8; ANSWER_BYTES]) -> Option<usize>
     ensures { FilledOr (closing 0) (lines file.now) answer.old result answer.new }
 {
-    let header = read_header(file)?;
+    let header = lend_header(file)?;
     match header.valuation {
-        Valuation::Rates(prices) => {
+        LentValuation::Rates(prices) => {
             let mut rates = Rates::make(prices).ok()?;
             open_and_play(room, &header, &mut rates, file, answer)
         }
-        Valuation::Protocol {
+        LentValuation::Protocol {
             factors,
             day_ahead,
             real_time,

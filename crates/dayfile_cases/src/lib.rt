@@ -3,3 +3,5 @@
 
 #[cfg(test)]
 mod files;
+#[cfg(test)]
+mod headers;

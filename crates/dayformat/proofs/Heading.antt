@@ -19,7 +19,7 @@ none_by : {X : Type 0} (t : Bool) (x : X) → None ≡ cond t (Some x) None → 
 none_by true x e = let z : ◌≡◌ {A = ℕ} 0 1 = cc in absurd (omega arith)
 none_by false x e = refl
 
-some_by : {X : Type 0} (t : Bool) (x y : X) → Some y ≡ cond t (Some x) None → (t ≡ true) × (y ≡ x)
+pub some_by : {X : Type 0} (t : Bool) (x y : X) → Some y ≡ cond t (Some x) None → (t ≡ true) × (y ≡ x)
 some_by true x y e = (refl, cc)
 some_by false x y e = let z : ◌≡◌ {A = ℕ} 0 1 = cc in absurd (omega arith)
 

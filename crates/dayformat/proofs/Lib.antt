@@ -1,3 +1,4 @@
 pub mod Chunks
 pub mod Opening
 pub mod Heading
+pub mod Placing

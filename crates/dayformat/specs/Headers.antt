@@ -4,8 +4,9 @@ use Rattle.std.specs.Borrow.{Bor}
 use Rattle.std.specs.Simd.{first_chunks}
 use Rattle.market.specs.declared.right.Right.{Right}
 use Rattle.dayformat.specs.declared.header.Header.{Header}
+use Rattle.dayformat.specs.declared.header.LentHeader.{LentHeader}
 use Rattle.dayformat.specs.Bytes.{le2, le4, le8_signed}
-use Rattle.dayformat.specs.Valuations.{Valued, valued_by, meant}
+use Rattle.dayformat.specs.Valuations.{Valued, valued_by, meant, lent}
 
 -- the mark DCB and version 1
 abbrev pub marked : List ℕ → Bool
@@ -47,5 +48,9 @@ header bs = cond (headed bs) (head_by bs (valued_by (drop (15 + 9 * le2 bs 13) b
 abbrev pub opened_of : ℤ × ℕ × Bor (List ℕ) → ℤ × ℕ × List ℕ
 opened_of p = (p.0, p.1, p.2.now)
 
-abbrev pub head_of : Header → Head
-head_of h = record { limit = h.limit; rights = map right_of h.rights.bytes.now; valued = meant h.valuation; calls = h.calls.now }
+abbrev pub lent_head : LentHeader → Head
+lent_head h = record { limit = h.limit; rights = map right_of h.rights.bytes.now; valued = lent h.valuation; calls = h.calls.now }
+
+-- by its places in the file
+abbrev pub head_of : List ℕ → Header → Head
+head_of file h = record { limit = h.limit; rights = take h.count h.rights; valued = meant file h.valuation; calls = drop h.length file }

@@ -1,12 +1,13 @@
 // Reading the header of a file.
-ghost use Rattle.std.specs.Prelude.{◌≡◌, ◌≤◌, length, IfSome};
+ghost use Rattle.std.specs.Prelude.{◌≡◌, ◌≤◌, length, take, IfSome};
 ghost use Rattle.std.specs.Option.{option_map};
-ghost use Rattle.dayformat.specs.Headers.{opened, opened_of, header, head_of};
-ghost use Rattle.dayformat.specs.Valuations.{rates_valued, pages_valued, valued_by, valued_of};
+ghost use Rattle.dayformat.specs.Headers.{opened, opened_of, header, lent_head, head_of};
+ghost use Rattle.dayformat.specs.Valuations.{rates_valued, pages_valued, valued_by, valued_of, placed, Inside};
 
-use crate::header::{Header, MOST_RIGHTS, Valuation};
+use crate::header::{Header, LentHeader, LentValuation, MOST_RIGHTS, Valuation};
 use crate::packed::RIGHT_BYTES;
 use crate::records::Records;
+use market::right::Right;
 use prices::page::STRETCH_BYTES;
 
 pub const MOST_BYTES: usize = 65_536;
@@ -26,7 +27,7 @@ fn opening(file: &[u8]) -> Option<(i64, u16, &[u8])>
 }
 
 // Four rates behind the byte of their rule, and what follows them.
-fn read_rates(bytes: &[u8]) -> Option<(Valuation<'_>, &[u8])>
+fn read_rates(bytes: &[u8]) -> Option<(LentValuation<'_>, &[u8])>
     ensures { option_map valued_of result ≡ rates_valued bytes.now }
 {
     let [bid, offer, three_part, path, ..] = bytes.as_chunks::<4>().0 else {
@@ -38,11 +39,11 @@ fn read_rates(bytes: &[u8]) -> Option<(Valuation<'_>, &[u8])>
         i32::from_le_bytes(*three_part),
         i32::from_le_bytes(*path),
     ];
-    Some((Valuation::Rates(prices), &bytes[16..]))
+    Some((LentValuation::Rates(prices), &bytes[16..]))
 }
 
 // Three factors, a count of points and two pages behind the byte of their rule, and what follows them.
-fn read_pages(bytes: &[u8]) -> Option<(Valuation<'_>, &[u8])>
+fn read_pages(bytes: &[u8]) -> Option<(LentValuation<'_>, &[u8])>
     ensures { option_map valued_of result ≡ pages_valued bytes.now }
 {
     let [e1, e2, e3, points, pages @ ..] = bytes else {
@@ -56,7 +57,7 @@ fn read_pages(bytes: &[u8]) -> Option<(Valuation<'_>, &[u8])>
     let (real_time, calls) = rest.split_at_checked(STRETCH_BYTES * points)?;
     let factors = [*e1, *e2, *e3];
     Some((
-        Valuation::Protocol {
+        LentValuation::Protocol {
             factors,
             day_ahead,
             real_time,
@@ -66,7 +67,7 @@ fn read_pages(bytes: &[u8]) -> Option<(Valuation<'_>, &[u8])>
 }
 
 // What the rule byte brings, and what follows it.
-fn read_valuation(bytes: &[u8]) -> Option<(Valuation<'_>, &[u8])>
+fn read_valuation(bytes: &[u8]) -> Option<(LentValuation<'_>, &[u8])>
     ensures { option_map valued_of result ≡ valued_by bytes.now }
 {
     match bytes {
@@ -77,8 +78,8 @@ fn read_valuation(bytes: &[u8]) -> Option<(Valuation<'_>, &[u8])>
 }
 
 // The header that a file opens with; none where it is cut, or its mark, version, count or rule is unfit.
-pub fn read_header(file: &[u8]) -> Option<Header<'_>>
-    ensures value { option_map head_of result ≡ header file.now }
+pub fn lend_header(file: &[u8]) -> Option<LentHeader<'_>>
+    ensures value { option_map lent_head result ≡ header file.now }
     ensures short { IfSome result (λ h. length file.now ≤ 65536) }
     ensures inside { IfSome result (λ h. length h.calls.now ≤ length file.now) }
 {
@@ -92,12 +93,59 @@ pub fn read_header(file: &[u8]) -> Option<Header<'_>>
     }
     let (rights, rest) = rest.split_at_checked(RIGHT_BYTES * count)?;
     let (valuation, calls) = read_valuation(rest)?;
-    Some(Header {
+    Some(LentHeader {
         limit,
         rights: Records {
             bytes: rights.as_chunks::<RIGHT_BYTES>().0,
         },
         valuation,
         calls,
+    })
+}
+
+// By places in a file whose calls begin at `length`.
+fn placed(valuation: LentValuation<'_>, length: usize) -> Valuation
+    ensures { result ≡ placed length valuation.entry }
+{
+    match valuation {
+        LentValuation::Rates(prices) => Valuation::Rates(prices),
+        LentValuation::Protocol {
+            factors,
+            day_ahead,
+            real_time,
+        } => Valuation::Protocol {
+            factors,
+            points: day_ahead.len() / STRETCH_BYTES,
+            pages: length.saturating_sub(2 * day_ahead.len()),
+        },
+    }
+}
+
+// The rights from the first place on, and blank rights behind them.
+fn held(read: &[Right]) -> [Right; MOST_RIGHTS]
+    requires { length read.now ≤ 200 }
+    ensures { take (length read.now) result ≡ read.now }
+{
+    let mut rights = [Right::default(); MOST_RIGHTS];
+    rights[..read.len()].copy_from_slice(read);
+    rights
+}
+
+// The same header by its places in the file, for callers that keep it longer than the file.
+pub fn read_header(file: &[u8]) -> Option<Header>
+    ensures value { option_map (head_of file.now) result ≡ header file.now }
+    ensures short { IfSome result (λ h. length file.now ≤ 65536) }
+    ensures inside { IfSome result (λ h. Inside (length file.now) h.valuation) }
+    ensures calls { IfSome result (λ h. h.length ≤ length file.now) }
+{
+    let header = lend_header(file)?;
+    let rights = header.rights.read::<Right>();
+    let length = file.len() - header.calls.len();
+    Some(Header {
+        limit: header.limit,
+        rights: held(&rights),
+        count: rights.len(),
+        valuation: placed(header.valuation, length),
+        length,
     })
 }

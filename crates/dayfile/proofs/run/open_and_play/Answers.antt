@@ -3,14 +3,14 @@ use Rattle.std.proofs.Common.{◌≡◌, Some, subst, ◌∙◌, rules, w64, to_
 use Rattle.std.specs.Result.{result_ok}
 use Rattle.book.specs.Opening.{opening, Opened}
 use Rattle.book.specs.Shown.{view}
-use Rattle.dayformat.specs.Headers.{head_of}
+use Rattle.dayformat.specs.Headers.{lent_head}
 use Rattle.dayfile.specs.Puts.{Filled}
 use Rattle.dayfile.proofs.Opening.{opened_as, under_opened}
 use Rattle.dayfile.proofs.run.open_and_play.Goals as goal
 
 pub returns : goal.returns
 returns g c =
-    let h = head_of c.args.header.now in
+    let h = lent_head c.args.header.now in
     let read = c.deref.ensures.0 ∙ c.read-rights.ensures in
     let limit : to_z w64 (of_z w64 h.limit) ≡ h.limit = search rules in
     let a = subst (λ l. Opened c.args.room (opening l h.rights) c.open.result) limit (subst (λ rs. Opened c.args.room (opening (to_z w64 (of_z w64 h.limit)) rs) c.open.result) read c.open.ensures.answer) in

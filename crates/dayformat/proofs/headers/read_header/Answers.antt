@@ -1,28 +1,25 @@
--- Each way out of the function is one of the tests of the definition.
-use Rattle.std.proofs.Common.{arith, rules}
-use Rattle.dayformat.proofs.Heading.{calls_inside, too_long, unopened, too_many, unvalued, cut_rights, has_header}
+-- The pieces by their places are those that the file lends.
+use Rattle.std.proofs.Common.{◌≡◌, ℕ, List, ℤ, length, Some, take, refl, sym, ap, subst, ◌∙◌, rules}
+use Rattle.market.specs.declared.right.Right.{Right}
+use Rattle.dayformat.specs.Headers.{Head, lent_head}
+use Rattle.dayformat.specs.Valuations.{Valued, meant, Inside}
+use Rattle.dayformat.proofs.Placing.{calls_last, placed_as, placed_inside}
 use Rattle.dayformat.proofs.headers.read_header.Goals as goal
 
-pub returns-then-file-gt-MOST_BYTES-clause-value : goal.returns-then-file-gt-MOST_BYTES-clause-value
-returns-then-file-gt-MOST_BYTES-clause-value c = too_long c.args.file.now (omega arith)
-
-pub returns-in_err-limit-clause-value : goal.returns-in_err-limit-clause-value
-returns-in_err-limit-clause-value c = rw c.from_residual.ensures (unopened c.args.file.now c.in_err-limit.ensures)
-
-pub returns-then-count-gt-MOST_RIGHTS-clause-value : goal.returns-then-count-gt-MOST_RIGHTS-clause-value
-returns-then-count-gt-MOST_RIGHTS-clause-value c = too_many c.args.file.now _ _ _ c.in_ok-limit.ensures (omega arith)
-
-pub returns-in_err-rights-clause-value : goal.returns-in_err-rights-clause-value
-returns-in_err-rights-clause-value c =
-    rw c.from_residual-in_err-rights.ensures (cut_rights c.args.file.now _ _ _ c.in_ok-limit.ensures (omega arith) (omega arith) c.in_err-rights.ensures.cases)
-
-pub returns-in_err-valuation-clause-value : goal.returns-in_err-valuation-clause-value
-returns-in_err-valuation-clause-value c =
-    rw c.from_residual-in_err-valuation.ensures (unvalued c.args.file.now _ _ _ c.in_ok-limit.ensures (omega arith) (omega arith) (search rules))
+same_head : {l l' : ℤ} {rs rs' : List Right} {v v' : Valued} {cs cs' : List ℕ} → l ≡ l' → rs ≡ rs' → v ≡ v' → cs ≡ cs' →
+    ◌≡◌ {A = Head} (record { limit = l; rights = rs; valued = v; calls = cs }) (record { limit = l'; rights = rs'; valued = v'; calls = cs' })
+same_head p q r s = λ i. record { limit = p i; rights = q i; valued = r i; calls = s i }
 
 pub returns-clause-value : goal.returns-clause-value
 returns-clause-value c =
-    has_header c.args.file.now _ _ _ c.in_ok-limit.ensures (omega arith) (omega arith) c.in_ok-rights.rights.now c.in_ok-rights.rest.now c.in_ok-valuation.calls.now _ _ _ (search rules) c.in_ok-valuation.ensures (search rules) (search rules)
+    let file = c.args.file.now in
+    let h = c.in_ok-header.header in
+    let is = c.in_ok-header.ensures.value in
+    let rights = ap (λ (n : ℕ). take n c.held.result) (c.len.ensures.value ∙ ap length (sym c.deref.ensures.0)) ∙ c.held.ensures ∙ c.deref.ensures.0 ∙ c.read-rights.ensures in
+    ap Some (same_head (search rules) rights (ap (meant file) c.placed.ensures ∙ placed_as file (lent_head h) is h.valuation refl) (calls_last file (lent_head h) is)) ∙ is
 
 pub returns-clause-inside : goal.returns-clause-inside
-returns-clause-inside c = calls_inside c.args.file.now _ _ _ c.in_ok-limit.ensures c.in_ok-rights.rest.now c.in_ok-valuation.calls.now _ (search rules) c.in_ok-valuation.ensures
+returns-clause-inside c =
+    let file = c.args.file.now in
+    let h = c.in_ok-header.header in
+    subst (Inside (length file)) (sym c.placed.ensures) (placed_inside file (lent_head h) c.in_ok-header.ensures.value h.valuation refl)
