@@ -1,4 +1,4 @@
-//! Examples of whole day files, each worked out by hand from the rules.
+//! Examples of whole day files and of their headers, each worked out by hand from the rules.
 #![tactic(auto)]
 
 #[cfg(test)]
