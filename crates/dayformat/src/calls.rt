@@ -9,7 +9,7 @@ use crate::records::Records;
 use market::kind::Figures;
 
 // The call that bytes open with, and what follows it; none where the letter is unknown or the call is cut.
-// Inlined, since the loop over the calls of a file is short: as a call of its own it took more than the rest of a line.
+// Inlined: as a call of its own it was a fifth of the work of a short line.
 #[inline(always)]
 pub fn next_call(bytes: &[u8]) -> Option<(Call<'_>, &[u8])>
     ensures reads { elim result [ Some p ↦ ((first_call bytes.now ≡ Some (means p.0, p.1.now)) × (length p.1.now < length bytes.now)) | None ↦ first_call bytes.now ≡ None ] }
